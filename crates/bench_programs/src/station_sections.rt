@@ -1,8 +1,7 @@
 // The sections of one batch, by two workers at once and by one.
 ghost use Rattle.std.specs.Prelude.{◌≡◌, ◌≤◌, length, IfOk};
 ghost use Rattle.std.specs.Arc.{arc_value};
-ghost use Rattle.std.specs.List.{All, Contains};
-ghost use Rattle.generation.specs.Layouts.{items_of};
+ghost use Rattle.generation.specs.Layouts.{AreItemsOf};
 
 use cycle_planner::{GREATEST_ID, Item, Weigh};
 use generation::Generation;
@@ -36,8 +35,7 @@ fn puts(alloc: Global) -> Result<Vec<Edit>, NoMemory> {
 /// The first items of a carousel that has the files.
 fn first_batch(alloc: Global) -> Result<Batch, NoMemory>
     ensures count { IfOk result (λ b. length b.items.items ≤ 1024) }
-    ensures items { IfOk result (λ b.
-        All (λ item. Contains (items_of (arc_value b.generation)) item) b.items.items) }
+    ensures items { IfOk result (λ b. AreItemsOf (arc_value b.generation) b.items.items) }
 {
     let call = Box::new(
         alloc,
@@ -69,7 +67,7 @@ fn encode_alone(
     generation: &Generation,
     items: &[Item],
 ) -> Result<Vec<Vec<u8>>, NoMemory>
-    requires { All (λ item. Contains (items_of generation.now) item) items.now }
+    requires { AreItemsOf generation.now items.now }
 {
     let mut sections = Vec::with_capacity(alloc, items.len())?;
     for item in items {
@@ -87,7 +85,7 @@ fn bytes_by_two<R: Threads + Sync>(
     rounds: u32,
 ) -> Result<u64, NoMemory>
     requires count { length items.now ≤ 1024 }
-    requires items { All (λ item. Contains (items_of generation.now) item) items.now }
+    requires items { AreItemsOf generation.now items.now }
 {
     let mut bytes = 0u64;
     for _ in 0..rounds {
@@ -104,7 +102,7 @@ fn bytes_alone(
     items: &[Item],
     rounds: u32,
 ) -> Result<u64, NoMemory>
-    requires { All (λ item. Contains (items_of generation.now) item) items.now }
+    requires { AreItemsOf generation.now items.now }
 {
     let mut bytes = 0u64;
     for _ in 0..rounds {

@@ -5,9 +5,9 @@ use Rattle.std.proofs.lemmas.List.{get_or-map, length-map}
 use Rattle.std.proofs.lemmas.Simd.{map-map}
 use Rattle.std.proofs.lemmas.Map.Text.{is_eq-slice_cmp}
 use Rattle.std.proofs.Math.Dec.{eqb-suc-suc, eqb-zero-suc}
-use Rattle.std.specs.Prelude.{is_some, IsSome, IfSome}
+use Rattle.std.specs.Prelude.{is_some, IsSome, IfSome, option_and_then, slice_get}
 use Rattle.std.specs.List.{list_any, find}
-use Rattle.std.specs.Option.{option_map, option_eq}
+use Rattle.std.specs.Option.{option_map, option_eq, option_map_or}
 use Rattle.std.specs.Ordering.{nat_cmp, eq_by_cmp}
 use Rattle.std.specs.Cmp.Lexicographic.{slice_cmp}
 use Rattle.std.specs.BTreeMap.{BTreeMap, get_by, is_at, Updates}
@@ -16,10 +16,11 @@ use Rattle.std.proofs.lemmas.Cmp.{eq_by_cmp_equiv}
 use Rattle.std.specs.Global.{Vec}
 use Rattle.path_tree.specs.Paths.{Bytes, same_name}
 use Rattle.path_tree.proofs.CallerLemmas.{same_name-is, same_name-refl, same_name-flips, name_total}
-use Rattle.biop_object.specs.Labels.{first_at, is_first_in, IsFirsts}
-use Rattle.biop_object.specs.Objects.{Shape, IsFile, IsFolder, IsOther, BindingFields, view_binding}
-use Rattle.biop_object.specs.Index.{view_kind, view_index}
-use Rattle.biop_object.specs.ObjectReading.{found_shape, found_from, missing_or_bad, bindings_in, shape_bindings}
+use Rattle.biop_object.specs.Labels.{is_first_in}
+use Rattle.biop_object.specs.Inner.Labels.{first_at, IsFirsts}
+use Rattle.biop_object.specs.Objects.{Shape, IsFile, IsFolder, IsOther, BindingFields, view_binding, Object}
+use Rattle.biop_object.specs.Inner.Index.{view_kind, view_index}
+use Rattle.biop_object.specs.ObjectReading.{found_shape, found_from, shape_bindings}
 use Rattle.biop_object.specs.declared.module.Indexed.{Indexed}
 use Rattle.biop_object.specs.declared.module.Kind.{Kind}
 use Rattle.biop_object.specs.declared.module.Kind.TheVariants as kinds
@@ -112,10 +113,10 @@ abbrev objects_look : Bytes → Option ℕ → ℕ → List Indexed → Found
 objects_look key stop j objects = found_from j key (view_index objects) stop
 
 pub object_found : (key : Bytes) (stop : Option ℕ) (objects : List Indexed) (i : ℕ) (o : Indexed) → first_at key (map (λ x. x.key.items) objects) ≡ Some i → o ≡ get_or objects i o → found_from 0 key (view_index objects) stop ≡ found_shape i (view_kind o.kind)
-object_found key stop objects i o = finds (λ x. x.key.items) key (objects_look key stop) (λ j x. found_shape j (view_kind x.kind)) (missing_or_bad stop) (λ j. refl) (λ j x xs. refl) 0 objects i i o (omega arith)
+object_found key stop objects i o = finds (λ x. x.key.items) key (objects_look key stop) (λ j x. found_shape j (view_kind x.kind)) (option_map_or (λ place. found.Bad place) stop found.Missing) (λ j. refl) (λ j x xs. refl) 0 objects i i o (omega arith)
 
-pub object_missed : (key : Bytes) (stop : Option ℕ) (objects : List Indexed) → first_at key (map (λ x. x.key.items) objects) ≡ None → found_from 0 key (view_index objects) stop ≡ missing_or_bad stop
-object_missed key stop = misses (λ x. x.key.items) key (objects_look key stop) (λ j x. found_shape j (view_kind x.kind)) (missing_or_bad stop) (λ j. refl) (λ j x xs. refl) 0
+pub object_missed : (key : Bytes) (stop : Option ℕ) (objects : List Indexed) → first_at key (map (λ x. x.key.items) objects) ≡ None → found_from 0 key (view_index objects) stop ≡ option_map_or (λ place. found.Bad place) stop found.Missing
+object_missed key stop = misses (λ x. x.key.items) key (objects_look key stop) (λ j x. found_shape j (view_kind x.kind)) (option_map_or (λ place. found.Bad place) stop found.Missing) (λ j. refl) (λ j x xs. refl) 0
 
 abbrev bindings_look : Bytes → ℕ → List Binding → Option BindingFields
 bindings_look n j bindings = find (λ b. same_name n b.name) (map view_binding bindings)
@@ -146,12 +147,12 @@ stands_first bindings i b first lt is e =
 
 -- ---- the bindings of a folder
 
-pub some_below : (objects : List Indexed) (k : ℕ) → IsSome (bindings_in (view_index objects) k) → k < length objects
+pub some_below : (objects : List Indexed) (k : ℕ) → IsSome (option_and_then (λ (o : Object). shape_bindings o.shape) (slice_get (view_index objects) k)) → k < length objects
 some_below [] k h = absurd cc
 some_below (o ∷ objects) zero h = omega arith
 some_below (o ∷ objects) (suc k) h = let lt = some_below objects k h in omega arith
 
-pub bindings_there : (objects : List Indexed) (k : ℕ) (o : Indexed) → k < length objects → o ≡ get_or objects k o → bindings_in (view_index objects) k ≡ shape_bindings (view_kind o.kind)
+pub bindings_there : (objects : List Indexed) (k : ℕ) (o : Indexed) → k < length objects → o ≡ get_or objects k o → option_and_then (λ (o : Object). shape_bindings o.shape) (slice_get (view_index objects) k) ≡ shape_bindings (view_kind o.kind)
 bindings_there [] k o lt at = absurd (omega arith)
 bindings_there (x ∷ objects) zero o lt at = ap (λ (i : Indexed). shape_bindings (view_kind i.kind)) (sym at)
 bindings_there (x ∷ objects) (suc k) o lt at = bindings_there objects k o (omega arith) at
@@ -161,10 +162,10 @@ kind_is_folder (kinds.Folder bindings) h never = never bindings refl
 kind_is_folder (kinds.File span) h never = cc
 kind_is_folder kinds.Other h never = cc
 
-pub folder_there : (objects : List Indexed) (k : ℕ) (o : Indexed) (bindings : List Binding) → k < length objects → o ≡ get_or objects k o → (get_or objects k o).kind ≡ kinds.Folder bindings → bindings_in (view_index objects) k ≡ Some (map view_binding bindings)
+pub folder_there : (objects : List Indexed) (k : ℕ) (o : Indexed) (bindings : List Binding) → k < length objects → o ≡ get_or objects k o → (get_or objects k o).kind ≡ kinds.Folder bindings → option_and_then (λ (o : Object). shape_bindings o.shape) (slice_get (view_index objects) k) ≡ Some (map view_binding bindings)
 folder_there objects k o bindings lt at is = bindings_there objects k o lt at ∙ ap (λ (x : Kind). shape_bindings (view_kind x)) (ap (λ (i : Indexed). i.kind) at ∙ is)
 
-pub never_other : (objects : List Indexed) (k : ℕ) (o : Indexed) → k < length objects → o ≡ get_or objects k o → IsSome (bindings_in (view_index objects) k)
+pub never_other : (objects : List Indexed) (k : ℕ) (o : Indexed) → k < length objects → o ≡ get_or objects k o → IsSome (option_and_then (λ (o : Object). shape_bindings o.shape) (slice_get (view_index objects) k))
     → ((bindings : List Binding) → (get_or objects k o).kind ≡ kinds.Folder bindings → ⊥) → ⊥
 never_other objects k o lt at some never =
     kind_is_folder o.kind (subst (λ (b : Option (List BindingFields)). IsSome b) (bindings_there objects k o lt at) some) (λ bindings e. never bindings (sym (ap (λ (i : Indexed). i.kind) at) ∙ e))
@@ -176,7 +177,7 @@ shape_has j k (IsFile first n) e = absurd cc
 shape_has j k (IsFolder bindings) e = (cc, refl)
 shape_has j k IsOther e = absurd cc
 
-pub folder_has : (objects : List Indexed) (i k : ℕ) (o : Indexed) → i < length objects → o ≡ get_or objects i o → found_shape i (view_kind o.kind) ≡ found.Folder k → IsSome (bindings_in (view_index objects) k)
+pub folder_has : (objects : List Indexed) (i k : ℕ) (o : Indexed) → i < length objects → o ≡ get_or objects i o → found_shape i (view_kind o.kind) ≡ found.Folder k → IsSome (option_and_then (λ (o : Object). shape_bindings o.shape) (slice_get (view_index objects) k))
 folder_has objects i k o lt at e =
     let has = shape_has i k (view_kind o.kind) e in
-    subst (λ (n : ℕ). IsSome (bindings_in (view_index objects) n)) has.0 (subst (λ (b : Option (List BindingFields)). IsSome b) (sym (bindings_there objects i o lt at)) has.1)
+    subst (λ (n : ℕ). IsSome (option_and_then (λ (o : Object). shape_bindings o.shape) (slice_get (view_index objects) n))) has.0 (subst (λ (b : Option (List BindingFields)). IsSome b) (sym (bindings_there objects i o lt at)) has.1)

@@ -9,8 +9,11 @@ use Rattle.path_tree.specs.Paths.{same_name}
 use Rattle.oc_bytes.specs.Agreement.{at, Taken, Then, Nested}
 use Rattle.oc_bytes.specs.Grammar.{Reads, read}
 use Rattle.oc_bytes.proofs.CallerLemmas.{grammar_agrees, fits_back}
-use Rattle.biop_object.specs.Objects.{Shape, IsFile, IsFolder, IsOther, Object, ReadsObject, ReadsModule, BeginsFramed, biop_head, framed, shape_by, shape, object}
-use Rattle.biop_object.specs.ObjectReading.{Index, and_then, read_on, index_of, objects_of, stop_of, object_at, found_from, found_shape}
+use Rattle.biop_object.specs.declared.written.TheConstants.{MESSAGE_HEAD}
+use Rattle.biop_object.specs.Objects.{Shape, IsFile, IsFolder, IsOther, Object, ReadsObject, ReadsModule, BeginsFramed, shape_by, shape, object}
+use Rattle.biop_object.specs.declared.reading.TheConstants.{HEAD}
+use Rattle.biop_object.specs.Inner.Objects.{framed}
+use Rattle.biop_object.specs.ObjectReading.{Index, and_then, read_on, index_of, object_at, found_from, found_shape}
 use Rattle.biop_object.specs.declared.module.Found.{Found}
 use Rattle.biop_object.specs.declared.module.Found.TheVariants as found
 use Rattle.biop_object.specs.declared.module.Span.{Span}
@@ -29,7 +32,7 @@ begins_framed bytes fits h = by_reading (read framed (from_start bytes)) refl h 
   by_reading (Ok x) e h =
       let t = (grammar_agrees framed).takes (from_start bytes) x fits e in
       let z = t.reads.second in
-      let head = t.reads.first.0.1 ∙ ap eight_bytes (eqb-true t.reads.value biop_head t.reads.first.1) in
+      let head = t.reads.first.0.1 ∙ ap eight_bytes (eqb-true t.reads.value HEAD t.reads.first.1) in
       (z.back, x.1.rest, omega (arith, z.second.size, z.first.0), framed_parts z.back x.1.rest t.parts t.reads.whole head z.whole (z.first.1 ∙ ap four_bytes (sym z.second.size)))
   by_reading (Err p) e h = absurd cc
 
@@ -61,7 +64,7 @@ read_steps (suc k) place (b ∷ bytes) fits le = subst (λ (i : Index). IsRead p
       (t.front, x.1.rest, t.parts, t.reads, subst (λ (p : ℕ). IsRead p x.1.rest (read_on k x.1)) t.place rest)
   by_object others (Err p) e = (refl, (λ none. cc), λ front rest o split reads. cc (object_again place front rest o reads))
 
-pub index_reads : (bytes : List ℕ) → IsBytes bytes → ReadsModule 0 bytes (objects_of bytes) (stop_of bytes)
+pub index_reads : (bytes : List ℕ) → IsBytes bytes → ReadsModule 0 bytes (index_of bytes).0 (index_of bytes).1
 index_reads bytes fits = read_steps (length bytes) 0 bytes fits (omega arith)
 
 -- ---- a module has one reading
@@ -109,7 +112,7 @@ content_ends place bytes o first n h e =
     let said = front.second in
     let body = said.first.second in
     let is : said.value ≡ IsFile first n = sym (ap (λ (x : Object). x.shape) said.second.1) ∙ e in
-    let place_of_body : ℕ = place + 12 + front.value.1 + 4 in
+    let place_of_body : ℕ = place + MESSAGE_HEAD + front.value.1 + 4 in
     let ends = body_ends place_of_body first n body.front _ _ (subst (λ (s : Shape). Reads (shape front.value.0.kind place_of_body) body.front s) is body.reads) in
     omega (arith, ends, lengths h, ap length h.first.0.1, lengths h.second, ap length h.second.first.1, inside inner, lengths front, front.first.1, lengths said, lengths said.first, ap length said.first.first.1, inside body)
 
@@ -133,5 +136,5 @@ file_inside place bytes (o ∷ objects) stop last j key span h e =
       | inr later ↦ omega (arith, whole, file_inside (place + length h.0) h.1 objects stop last (suc j) key span h.4 later)
     ]
 
-pub found_inside : (bytes key : List ℕ) (span : Span) → IsBytes bytes → found_from 0 key (objects_of bytes) (stop_of bytes) ≡ found.File span → span.first + span.length ≤ length bytes
-found_inside bytes key span fits e = omega (arith, file_inside 0 bytes (objects_of bytes) (stop_of bytes) (stop_of bytes) 0 key span (index_reads bytes fits) e)
+pub found_inside : (bytes key : List ℕ) (span : Span) → IsBytes bytes → found_from 0 key (index_of bytes).0 (index_of bytes).1 ≡ found.File span → span.first + span.length ≤ length bytes
+found_inside bytes key span fits e = omega (arith, file_inside 0 bytes (index_of bytes).0 (index_of bytes).1 (index_of bytes).1 0 key span (index_reads bytes fits) e)

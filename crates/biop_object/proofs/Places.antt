@@ -2,10 +2,12 @@
 use Rattle.std.proofs.Common.{◌≡◌, ℕ, ◌+◌, ◌-◌, ◌≤◌, Bool, true, false, cond, ◌==◌, nat_lt, List, length, take, Ok, Err, refl, sym, ap, subst, ◌∙◌, arith}
 use Rattle.std.proofs.lemmas.Bool.{ltb-false}
 use Rattle.oc_bytes.specs.Numbers.{number_of}
-use Rattle.oc_bytes.specs.Cursor.{Cursor, Reading, ◌>>=◌, past, number_at, this_at, part_at, if_holds, counting}
+use Rattle.oc_bytes.specs.Cursor.{Cursor, Reading, ◌>>=◌, past, number_at, this_at, part_at}
 use Rattle.oc_bytes.specs.Grammar.{Grammar, four, enclosed, read}
 use Rattle.oc_bytes.proofs.CallerLemmas.{bind_ok, held_ok, part_is, passes}
-use Rattle.biop_object.specs.Objects.{Object, Heading, biop_head, shape, heading, message}
+use Rattle.biop_object.specs.declared.written.TheConstants.{MESSAGE_HEAD}
+use Rattle.biop_object.specs.Objects.{Object, Heading, shape, heading, message}
+use Rattle.biop_object.specs.declared.reading.TheConstants.{HEAD}
 use Rattle.biop_object.specs.ObjectReading.{object_at}
 
 -- what cutting off a number, or bytes, leaves
@@ -15,10 +17,10 @@ cut_moves {A} n c a x e = behind (nat_lt (length c.rest) n) refl e where
   behind true is e = absurd cc
   behind false is e = let same : (a, past n c) ≡ x = cc in (ltb-false (length c.rest) n is, ap (λ (y : A × Cursor). y.1) (sym same))
 
-pub head_moves : (c : Cursor) (x : ℕ × Cursor) → this_at 8 biop_head c ≡ Ok x → (8 ≤ length c.rest) × (x.1 ≡ past 8 c)
+pub head_moves : (c : Cursor) (x : ℕ × Cursor) → this_at 8 HEAD c ≡ Ok x → (8 ≤ length c.rest) × (x.1 ≡ past 8 c)
 head_moves c x e =
-    let h = bind_ok (number_at 8 c) (λ y. if_holds c (y.0 == biop_head) y) x e in
-    let same = held_ok (h.0.0 == biop_head) c.place h.0 x h.2 in
+    let h = bind_ok (number_at 8 c) (λ y. cond (y.0 == HEAD) (Ok y) (Err c.place)) x e in
+    let same = held_ok (h.0.0 == HEAD) c.place h.0 x h.2 in
     subst (λ (y : ℕ × Cursor). (8 ≤ length c.rest) × (y.1 ≡ past 8 c)) same.1 (cut_moves 8 c (number_of (take 8 c.rest)) h.0 h.1)
 
 -- ---- a grammar that depends on its place, read where it stands
@@ -47,17 +49,21 @@ sized_is = enclosed_is message
 abbrev pub behind_heading : Heading → ℕ → Cursor → Reading Object
 behind_heading h place c = read (enclosed four (shape h.kind (place + 4))) c >>= λ x. Ok (record { key = h.key; shape = x.0 }, x.1)
 
+-- a heading, and how many bytes it took
+abbrev counted_from : ℕ → Heading × Cursor → Reading (Heading × ℕ)
+counted_from place x = Ok ((x.0, x.1.place - place), x.1)
+
 pub message_is : (c : Cursor) → read (message c.place) c ≡ (read heading c >>= λ h. behind_heading h.0 h.1.place h.1)
 unfolding read
 message_is c = by_heading (read heading c) refl where
-  by_heading : (m : Reading Heading) → read heading c ≡ m → (m >>= counting c.place >>= λ f. behind_heading f.0.0 (c.place + f.0.1) f.1) ≡ (m >>= λ h. behind_heading h.0 h.1.place h.1)
+  by_heading : (m : Reading Heading) → read heading c ≡ m → (m >>= counted_from c.place >>= λ f. behind_heading f.0.0 (c.place + f.0.1) f.1) ≡ (m >>= λ h. behind_heading h.0 h.1.place h.1)
   by_heading (Ok h) e =
       let place : c.place + (h.1.place - c.place) ≡ h.1.place = omega (arith, ap (λ (d : Cursor). d.place) (passes heading c h e).2) in
       ap (λ (q : ℕ). behind_heading h.0 q h.1) place
   by_heading (Err p) e = refl
 
-pub object_is : (c : Cursor) → object_at c ≡ (this_at 8 biop_head c >>= λ x. read (enclosed four (message (x.1.place + 4))) x.1)
+pub object_is : (c : Cursor) → object_at c ≡ (this_at 8 HEAD c >>= λ x. read (enclosed four (message (x.1.place + 4))) x.1)
 unfolding read object_at
-object_is c = bind_same (this_at 8 biop_head c) (λ x. read (enclosed four (message (c.place + 12))) x.1) (λ x. read (enclosed four (message (x.1.place + 4))) x.1) (λ x e.
-    let place : c.place + 12 ≡ x.1.place + 4 = omega (arith, ap (λ (d : Cursor). d.place) (head_moves c x e).1) in
+object_is c = bind_same (this_at 8 HEAD c) (λ x. read (enclosed four (message (c.place + MESSAGE_HEAD))) x.1) (λ x. read (enclosed four (message (x.1.place + 4))) x.1) (λ x e.
+    let place : c.place + MESSAGE_HEAD ≡ x.1.place + 4 = omega (arith, ap (λ (d : Cursor). d.place) (head_moves c x e).1) in
     ap (λ (q : ℕ). read (enclosed four (message q)) x.1) place)

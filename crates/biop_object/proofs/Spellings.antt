@@ -1,5 +1,5 @@
 -- What is written is read as what it was written for.
-use Rattle.std.proofs.Common.{◌≡◌, ℕ, ◌+◌, ◌-◌, ◌*◌, ◌<◌, ◌≤◌, List, [], ◌∷◌, ◌++◌, length, map, None, refl, sym, ap, subst, ◌∙◌, append_assoc, arith}
+use Rattle.std.proofs.Common.{◌≡◌, ℕ, ◌+◌, ◌-◌, ◌*◌, ◌<◌, ◌≤◌, List, [], ◌∷◌, ◌++◌, length, map, None, refl, sym, ap, subst, ◌∙◌, append_assoc, arith, true, false}
 use Rattle.std.specs.List.{All, flat_map, sum_by}
 use Rattle.std.proofs.lemmas.List.{append-nil, length-append, length-map, take_at, drop_at}
 use Rattle.std.proofs.lemmas.List.Elements.{All-head, All-tail}
@@ -11,12 +11,15 @@ use Rattle.oc_bytes.proofs.CallerLemmas.{put}
 use Rattle.ior_tap.specs.declared.Location.{Location}
 use Rattle.ior_tap.specs.Iors as iors
 use Rattle.ior_tap.proofs.CallerLemmas.{written_reads, spelling_length}
+use Rattle.biop_object.specs.declared.written.TheConstants.{MESSAGE_HEAD}
 use Rattle.biop_object.specs.declared.written.Written.{Written}
 use Rattle.biop_object.specs.declared.written.Bound.{Bound}
 use Rattle.biop_object.specs.declared.written.Bound.TheVariants as bounds
 use Rattle.biop_object.specs.declared.written.FolderKind.{FolderKind}
 use Rattle.biop_object.specs.declared.written.FolderKind.TheVariants.{Directory, Gateway}
-use Rattle.biop_object.specs.Objects.{BindingFields, Shape, IsFile, IsFolder, Object, ReadsObject, ReadsModule, drop_zero, file_kind, directory_kind, biop_head, binding, folder, shape, heading, message, biop, biop_prefix, file_spelling, kind_of, binding_spelling, folder_spelling, binding_of, bound_size, binding_size, folder_size, IsEntry}
+use Rattle.biop_object.specs.declared.reading.TheConstants.{HEAD, FILE, DIRECTORY}
+use Rattle.biop_object.specs.Objects.{BindingFields, Shape, IsFile, IsFolder, Object, ReadsObject, ReadsModule, drop_zero, binding, shape, heading, message, biop, file_spelling, kind_of, binding_spelling, folder_spelling, binding_of, bound_size, binding_size, folder_size, IsEntry, shape_by}
+use Rattle.biop_object.specs.Inner.Objects.{biop_prefix}
 use Rattle.biop_object.specs.ObjectReading.{index_of}
 use Rattle.biop_object.specs.Spelled.{Spelled, AFile, AFolder, spelled_bytes, spelled_object, spelled_objects, IsSpellableEntry, IsSpellable}
 use Rattle.biop_object.proofs.ModuleLaws.{only_one}
@@ -58,13 +61,13 @@ unfolding Reads
 biop_reads place key kind info body said k n i b reads =
     let o : Object = record { key = key; shape = said } in
     let n_front : ℕ = length (heading_of key kind info) in
-    let there : place + 24 + length key + length kind + length info ≡ place + 12 + n_front + 4 = simp length-append (omega arith) in
-    let inner : Reads (message (place + 12)) (heading_of key kind info ++ (four_bytes (length body) ++ body)) o =
+    let there : place + 24 + length key + length kind + length info ≡ place + MESSAGE_HEAD + n_front + 4 = simp length-append (omega arith) in
+    let inner : Reads (message (place + MESSAGE_HEAD)) (heading_of key kind info ++ (four_bytes (length body) ++ body)) o =
     put (record { key = key; kind = kind }, n_front) (heading_of key kind info) _ (heading_reads key kind info k n i, refl) (put_end said (four_bytes (length body) ++ body)
-    (enclosed_reads (shape kind (place + 12 + n_front + 4)) body said (omega (arith, b)) (subst (λ (q : ℕ). Reads (shape kind q) body said) there reads)) (refl, refl)) in
+    (enclosed_reads (shape kind (place + MESSAGE_HEAD + n_front + 4)) body said (omega (arith, b)) (subst (λ (q : ℕ). Reads (shape kind q) body said) there reads)) (refl, refl)) in
     let whole = regroup_rest (length key ∷ key) (four_bytes (length kind)) kind (two_bytes (length info)) info (0 ∷ []) (four_bytes (length body)) body in
-    put biop_head (in_bytes eight biop_head) _ ((omega arith, refl), refl)
-    (enclosed_reads (message (place + 12)) (rest_of key kind info body) o (omega (arith, rest_length key kind info body)) (subst (λ (s : List ℕ). Reads (message (place + 12)) s o) (sym whole) inner))
+    put HEAD (in_bytes eight HEAD) _ ((omega arith, refl), refl)
+    (enclosed_reads (message (place + MESSAGE_HEAD)) (rest_of key kind info body) o (omega (arith, rest_length key kind info body)) (subst (λ (s : List ℕ). Reads (message (place + MESSAGE_HEAD)) s o) (sym whole) inner))
 
 -- the bytes before the body, written with the sizes as numbers
 front_is : (key kind info body : List ℕ) (n : ℕ) → length key ≡ 4 → length kind ≡ 4 → n ≡ length body → biop_prefix key kind info n ++ body ≡ biop key kind info body
@@ -83,7 +86,7 @@ pub file_reads : (place : ℕ) (key content : List ℕ) → length key ≡ 4 →
 unfolding Reads
 file_reads place key content k small =
     let there : place + 24 + length key + 4 + 8 + 4 ≡ place + 44 = omega (arith, k) in
-    biop_reads place key file_kind (eight_bytes (length content)) (four_bytes (length content) ++ content) (IsFile (place + 44) (length content)) (omega (arith, k)) (omega arith) (omega arith) (omega (arith, small))
+    biop_reads place key FILE (eight_bytes (length content)) (four_bytes (length content) ++ content) (IsFile (place + 44) (length content)) (omega (arith, k)) (omega arith) (omega arith) (omega (arith, small))
     (put_end content (four_bytes (length content) ++ content) (omega (arith, small), refl) (refl, ap (λ (q : ℕ). IsFile q (length content)) (sym there)))
 
 -- ---- a binding
@@ -119,18 +122,18 @@ bound_reads w kind info t e four_of small i =
       named x = record { name = x; kind = kind; target = iors.written_form kind w.location }
 
 binding_reads : (name : List ℕ) (b : Bound) (l : Location) → IsSpellableEntry (entry name b l) → Reads binding (binding_spelling (entry name b l)) (binding_of (entry name b l))
-binding_reads name (bounds.File size) l e = bound_reads (entry name (bounds.File size) l) file_kind (eight_bytes size) 1 e refl (omega arith) (omega arith)
+binding_reads name (bounds.File size) l e = bound_reads (entry name (bounds.File size) l) FILE (eight_bytes size) 1 e refl (omega arith) (omega arith)
 binding_reads name bounds.Folder l e =
-    subst (λ (tail : List ℕ). Reads binding ((1 ∷ (length name + 1) ∷ name) ++ (0 ∷ 4 ∷ directory_kind) ++ tail) (binding_of (entry name bounds.Folder l)))
-    (append-nil ((2 ∷ iors.spelling directory_kind l) ++ two_bytes 0)) (bound_reads (entry name bounds.Folder l) directory_kind [] 2 e refl (omega arith) (omega arith))
+    subst (λ (tail : List ℕ). Reads binding ((1 ∷ (length name + 1) ∷ name) ++ (0 ∷ 4 ∷ DIRECTORY) ++ tail) (binding_of (entry name bounds.Folder l)))
+    (append-nil ((2 ∷ iors.spelling DIRECTORY l) ++ two_bytes 0)) (bound_reads (entry name bounds.Folder l) DIRECTORY [] 2 e refl (omega arith) (omega arith))
 
 bound_length : (name kind ref info : List ℕ) → length ((1 ∷ (length name + 1) ∷ name) ++ (0 ∷ 4 ∷ kind) ++ (ref ++ info)) ≡ 4 + length name + length kind + length ref + length info
 bound_length name kind ref info = simp length-append (omega arith)
 
 binding_length : (name : List ℕ) (b : Bound) (l : Location) → length l.key ≡ 4 → length (binding_spelling (entry name b l)) ≡ length name + bound_size b
 binding_length name (bounds.File size) l key =
-    omega (arith, bound_length name file_kind ((1 ∷ iors.spelling file_kind l) ++ two_bytes 8) (eight_bytes size), length-append (1 ∷ iors.spelling file_kind l) (two_bytes 8), spelling_length file_kind l refl key)
-binding_length name bounds.Folder l key = omega (arith, bound_length name directory_kind (2 ∷ iors.spelling directory_kind l) (two_bytes 0), spelling_length directory_kind l refl key)
+    omega (arith, bound_length name FILE ((1 ∷ iors.spelling FILE l) ++ two_bytes 8) (eight_bytes size), length-append (1 ∷ iors.spelling FILE l) (two_bytes 8), spelling_length FILE l refl key)
+binding_length name bounds.Folder l key = omega (arith, bound_length name DIRECTORY (2 ∷ iors.spelling DIRECTORY l) (two_bytes 0), spelling_length DIRECTORY l refl key)
 
 -- a binding as it is put, part by part
 pub file_parts : (o p z k t f i : List ℕ) → o ++ p ++ z ++ k ++ t ++ f ++ i ≡ o ++ (p ++ (z ++ k) ++ (t ++ f ++ i))
@@ -141,7 +144,7 @@ folder_parts o p z k t f = simp append_assoc
 
 -- ---- a folder
 
-folder_kind : (kind : FolderKind) (place : ℕ) → (length (kind_of kind) ≡ 4) × (shape (kind_of kind) place ≡ folder)
+folder_kind : (kind : FolderKind) (place : ℕ) → (length (kind_of kind) ≡ 4) × (shape (kind_of kind) place ≡ shape_by false true place)
 folder_kind Directory place = (refl, refl)
 folder_kind Gateway place = (refl, refl)
 
@@ -172,7 +175,7 @@ lines_read : (entries : List Written) → All IsSpellableEntry entries → Reads
 lines_read [] all = refl
 lines_read (w ∷ ws) all = (binding_spelling w, lines_of ws, refl, binding_reads w.name w.bound w.location (All-head IsSpellableEntry w ws all), lines_read ws (All-tail IsSpellableEntry w ws all))
 
-folder_body : (entries : List Written) → All IsSpellableEntry entries → length entries < 65536 → Reads folder (body_of entries) (IsFolder (map binding_of entries))
+folder_body : (entries : List Written) → All IsSpellableEntry entries → length entries < 65536 → Reads (shape_by false true 0) (body_of entries) (IsFolder (map binding_of entries))
 unfolding Reads
 folder_body entries all few =
     put (length entries) (two_bytes (length entries)) (lines_of entries) (few, refl) (put_end (map binding_of entries) (lines_of entries) (record { count = length-map entries binding_of; each = lines_read entries all }) (refl, refl))
@@ -195,10 +198,10 @@ folder_reads place kind key entries k all room small =
     spellable_reads place kind key entries k (λ i w lt. record { name = (all i w lt).name; location = ((all i w lt).key, (room i w lt).carousel); listed = (all i w lt).listed }) small
 
 pub folder_is : (kind : FolderKind) (key : List ℕ) (entries : List Written) (size : ℕ) → length key ≡ 4 → All IsEntry entries → size ≡ folder_size entries
-    → biop_prefix key (kind_of kind) [] (size - 32) ++ two_bytes (length entries) ++ lines_of entries ≡ folder_spelling kind key entries
+    → biop_prefix key (kind_of kind) [] (size - MESSAGE_HEAD - 20) ++ two_bytes (length entries) ++ lines_of entries ≡ folder_spelling kind key entries
 folder_is kind key entries size k all is =
-    append_assoc (biop_prefix key (kind_of kind) [] (size - 32)) (two_bytes (length entries)) (lines_of entries)
-    ∙ front_is key (kind_of kind) [] (body_of entries) (size - 32) k (folder_kind kind 0).0 (omega (arith, is, lines_length entries all))
+    append_assoc (biop_prefix key (kind_of kind) [] (size - MESSAGE_HEAD - 20)) (two_bytes (length entries)) (lines_of entries)
+    ∙ front_is key (kind_of kind) [] (body_of entries) (size - MESSAGE_HEAD - 20) k (folder_kind kind 0).0 (omega (arith, is, lines_length entries all))
 
 -- ---- spellings one after another
 

@@ -13,7 +13,8 @@ use Rattle.biop_object.specs.declared.written.FolderKind.{FolderKind}
 use Rattle.biop_object.specs.declared.written.FolderKind.TheVariants.{Directory, Gateway}
 use Rattle.oc_bytes.specs.Grammar.{Grammar, one, two, four, eight, number, sized, each, enclosed, counted, field, unkept, gives, this, passed, Reads as ReadsBy}
 use Rattle.path_tree.specs.Paths.{same_name}
-use Rattle.biop_object.specs.declared.written.TheConstants.{FOLDER_FRONT, FILE_BINDING, FOLDER_BINDING}
+use Rattle.biop_object.specs.declared.written.TheConstants.{MESSAGE_HEAD, FOLDER_FRONT, FILE_BINDING, FOLDER_BINDING}
+use Rattle.biop_object.specs.declared.reading.TheConstants.{HEAD, FILE, DIRECTORY, GATEWAY}
 
 pub record BindingFields : Type 0 where
   pub name : List ℕ
@@ -33,16 +34,6 @@ pub record Object : Type 0 where
   pub key : List ℕ
   pub shape : Shape
 
--- `fil`, `dir` and `srg`, each with a zero byte
-abbrev pub file_kind : List ℕ
-file_kind = 102 ∷ 105 ∷ 108 ∷ 0 ∷ []
-
-abbrev pub directory_kind : List ℕ
-directory_kind = 100 ∷ 105 ∷ 114 ∷ 0 ∷ []
-
-abbrev pub gateway_kind : List ℕ
-gateway_kind = 115 ∷ 114 ∷ 103 ∷ 0 ∷ []
-
 -- ---- the grammar
 
 -- a service context: its id and its data
@@ -51,11 +42,6 @@ context =
     field (number four) (λ c. c.0) λ id.
     field (sized two) (λ c. c.1) λ context_data.
     gives (id, context_data)
-
-abbrev pub contexts : Grammar (List (ℕ × List ℕ))
-contexts =
-    field (number one) (λ cs. length cs) λ count.
-    each context count
 
 -- an id without one zero at its end, which is no part of the name
 abbrev pub drop_zero : List ℕ → List ℕ
@@ -72,28 +58,21 @@ binding =
     unkept (sized two) λ info.
     gives (record { name = drop_zero id; kind = kind; target = target })
 
--- a file's body at a place of its module
-abbrev pub file : ℕ → Grammar Shape
-file place =
+-- the body of a file, of a folder and of any other object, at a place of its module
+abbrev pub shape_by : (file_like folder_like : Bool) → ℕ → Grammar Shape
+shape_by true folder_like place =
     unkept (sized four) λ content.
     gives (IsFile (place + 4) (length content))
-
--- a folder's body
-abbrev pub folder : Grammar Shape
-folder =
+shape_by false true place =
     unkept (number two) λ bindings_count.
     unkept (each binding bindings_count) λ bindings.
     gives (IsFolder bindings)
-
--- by whether the kind is that of a file, and that of a folder
-abbrev pub shape_by : (file_like folder_like : Bool) → ℕ → Grammar Shape
-shape_by true folder_like place = file place
-shape_by false true place = folder
 shape_by false false place = gives IsOther
 
--- the body of a message of this kind, at a place of its module; of another kind it isn't read
+-- the body of a message of this kind, `fil`, `dir` or `srg` and a zero byte, at a place of its module; of another kind it
+-- isn't read
 abbrev pub shape : List ℕ → ℕ → Grammar Shape
-shape kind place = shape_by (same_name kind file_kind) (same_name kind directory_kind || same_name kind gateway_kind) place
+shape kind place = shape_by (same_name kind FILE) (same_name kind DIRECTORY || same_name kind GATEWAY) place
 
 -- what stands in a message before its body; the objectInfo isn't looked at
 pub record Heading : Type 0 where
@@ -105,7 +84,7 @@ heading =
     field (sized one) (λ h. h.key) λ key.
     field (sized four) (λ h. h.kind) λ kind.
     unkept (sized two) λ info.
-    unkept (passed contexts []) λ skipped.
+    unkept (passed (field (number one) (λ cs. length cs) λ count. each context count) []) λ skipped.
     gives (record { key = key; kind = kind })
 
 -- what stands in a message after its size, at a place of its module
@@ -115,24 +94,11 @@ message place =
     field (enclosed four (shape front.0.kind (place + front.1 + 4))) (λ o. o.shape) λ said.
     gives (record { key = front.0.key; shape = said })
 
--- `BIOP`, version 1.0, byte order 0, message type 0
-abbrev pub biop_head : ℕ
-biop_head = 0x42494F5001000000
-
--- a message at a place of its module
+-- a message at a place of its module: `BIOP`, version 1.0, byte order 0, message type 0; then its size
 abbrev pub object : ℕ → Grammar Object
 object place =
-    field (this eight biop_head) (λ o. biop_head) λ head.
-    enclosed four (message (place + 12))
-
--- a size in four bytes and as many bytes, whatever they say, and with a message's front before them
-abbrev pub cut_off : Grammar (Unit {0})
-cut_off = enclosed four (gives tt)
-
-abbrev pub framed : Grammar (Unit {0})
-framed =
-    field (this eight biop_head) (λ u. biop_head) λ head.
-    cut_off
+    field (this eight HEAD) (λ o. HEAD) λ head.
+    enclosed four (message (place + MESSAGE_HEAD))
 
 -- the bytes, all of them, are one message at this place of its module
 abbrev pub ReadsObject : (at : ℕ) → List ℕ → Object → Type 0
@@ -159,25 +125,20 @@ biop key kind info body =
     let rest = (length key ∷ key) ++ four_bytes (length kind) ++ kind ++ two_bytes (length info) ++ info ++ 0 ∷ four_bytes (length body) ++ body in
     message_front ++ four_bytes (length rest) ++ rest
 
--- what stands before the body of a message whose key and kind have four bytes each
-abbrev pub biop_prefix : (key kind info : List ℕ) → ℕ → List ℕ
-biop_prefix key kind info body_length = message_front ++ four_bytes (20 + length info + body_length)
-    ++ (4 ∷ key) ++ four_bytes 4 ++ kind ++ two_bytes (length info) ++ info ++ 0 ∷ four_bytes body_length
-
 abbrev pub file_spelling : List ℕ → List ℕ → List ℕ
-file_spelling key content = biop key file_kind (eight_bytes (length content)) (four_bytes (length content) ++ content)
+file_spelling key content = biop key FILE (eight_bytes (length content)) (four_bytes (length content) ++ content)
 
 abbrev pub kind_of : FolderKind → List ℕ
-kind_of Directory = directory_kind
-kind_of Gateway = gateway_kind
+kind_of Directory = DIRECTORY
+kind_of Gateway = GATEWAY
 
 abbrev pub bound_tail : Bound → Location → List ℕ
-bound_tail (bounds.File size) l = 1 ∷ iors.spelling file_kind l ++ two_bytes 8 ++ eight_bytes size
-bound_tail bounds.Folder l = 2 ∷ iors.spelling directory_kind l ++ two_bytes 0
+bound_tail (bounds.File size) l = 1 ∷ iors.spelling FILE l ++ two_bytes 8 ++ eight_bytes size
+bound_tail bounds.Folder l = 2 ∷ iors.spelling DIRECTORY l ++ two_bytes 0
 
 abbrev pub bound_kind : Bound → List ℕ
-bound_kind (bounds.File size) = file_kind
-bound_kind bounds.Folder = directory_kind
+bound_kind (bounds.File size) = FILE
+bound_kind bounds.Folder = DIRECTORY
 
 abbrev pub binding_spelling : Written → List ℕ
 binding_spelling w = 1 ∷ (length w.name + 1) ∷ w.name ++ 0 ∷ 4 ∷ bound_kind w.bound ++ bound_tail w.bound w.location

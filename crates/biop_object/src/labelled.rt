@@ -1,7 +1,7 @@
 //! Lists in which the first element of a label is found by halves.
 
 ghost use Rattle.std.specs.Prelude.{◌≡◌, ◌<◌, ◌++◌, ◌∷◌, [], length, map, IfOk, IfSome};
-ghost use Rattle.biop_object.specs.Labels.{first_at};
+ghost use Rattle.biop_object.specs.Inner.Labels.{first_at};
 
 use oc_bytes::NoMemory;
 use std::alloc::Global;
@@ -31,7 +31,7 @@ impl<T: HasLabel> Model for Labelled<T> {
 
     ghost Value = { List T };
 
-    ghost use Rattle.biop_object.specs.Labels.{IsFirsts};
+    ghost use Rattle.biop_object.specs.Inner.Labels.{IsFirsts};
 
     ghost view = { λ l. l.items.items };
 

@@ -24,7 +24,8 @@ mod written;
 pub use laws::spellings_read_back;
 pub use limits::limits_are_numbers;
 pub use module::{Binding, Found, Module, Span};
+pub use reading::{DIRECTORY, FILE, GATEWAY};
 pub use written::{
-    Bound, FILE_BINDING, FILE_FRONT, FOLDER_BINDING, FOLDER_FRONT, FolderKind, MOST_FOLDER_SIZE,
-    ObjectFault, Written, encode_file, encode_folder,
+    Bound, FILE_BINDING, FILE_FRONT, FOLDER_BINDING, FOLDER_FRONT, FolderKind, MESSAGE_HEAD,
+    MOST_FOLDER_SIZE, ObjectFault, Written, encode_file, encode_folder,
 };

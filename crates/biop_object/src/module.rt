@@ -1,13 +1,13 @@
 //! A module with the index of its objects.
 
-ghost use Rattle.std.specs.Prelude.{◌≡◌, ◌<◌, ◌≤◌, ◌+◌, List, ℕ, Option, length, map, Some, IfOk, IfErr, IsErr, IsSome};
+ghost use Rattle.std.specs.Prelude.{◌≡◌, ◌<◌, ◌≤◌, ◌+◌, List, ℕ, Option, length, map, Some, IfOk, IfErr, IsErr, IsSome, option_and_then, slice_get};
 ghost use Rattle.std.specs.List.{find};
 ghost use Rattle.std.specs.Option.{option_map};
 ghost use Rattle.path_tree.specs.Paths.{same_name};
-ghost use Rattle.biop_object.specs.Objects.{view_binding};
-ghost use Rattle.biop_object.specs.Index.{view_kind, view_index};
+ghost use Rattle.biop_object.specs.Objects.{view_binding, Object};
+ghost use Rattle.biop_object.specs.Inner.Index.{view_kind, view_index};
 ghost use Rattle.biop_object.specs.Labels.{is_first_in};
-ghost use Rattle.biop_object.specs.ObjectReading.{found_shape, found_from, bindings_in, names_of, binding_in};
+ghost use Rattle.biop_object.specs.ObjectReading.{found_shape, found_from, names_of, binding_in, shape_bindings};
 
 use crate::labelled::{HasLabel, Labelled};
 use crate::reading::read_index;
@@ -112,8 +112,8 @@ impl Model for Module {
 
     ghost Value = { List ℕ };
 
-    ghost use Rattle.biop_object.specs.Index.{view_index};
-    ghost use Rattle.biop_object.specs.ModuleFacts.{IsIndexed};
+    ghost use Rattle.biop_object.specs.Inner.Index.{view_index};
+    ghost use Rattle.biop_object.specs.Inner.ModuleFacts.{IsIndexed};
 
     ghost view = { λ m. m.bytes.items };
 
@@ -125,7 +125,8 @@ fn find_in(index: &Labelled<Indexed>, stop: Option<usize>, key: &[u8]) -> Found
     ensures found { result ≡ found_from 0 key.now (view_index index.now) stop }
     ensures folder { (k : ℕ)
         → result ≡ Found.Folder k
-        → IsSome (bindings_in (view_index index.now) k) }
+        → IsSome (option_and_then (λ (o : Object). shape_bindings o.shape)
+        (slice_get (view_index index.now) k)) }
 {
     match (index.first(key), stop) {
         (Some(number), _) => index.items()[number].kind.found(number),
@@ -136,8 +137,10 @@ fn find_in(index: &Labelled<Indexed>, stop: Option<usize>, key: &[u8]) -> Found
 
 fn bindings_at(index: &[Indexed], folder: usize) -> &Labelled<Binding>
     requires below { folder < length index.now }
-    requires folder { IsSome (bindings_in (view_index index.now) folder) }
-    ensures { bindings_in (view_index index.now) folder ≡ Some (map view_binding result.now) }
+    requires folder { IsSome (option_and_then (λ (o : Object). shape_bindings o.shape)
+        (slice_get (view_index index.now) folder)) }
+    ensures { option_and_then (λ (o : Object). shape_bindings o.shape)
+        (slice_get (view_index index.now) folder) ≡ Some (map view_binding result.now) }
 {
     match &index[folder].kind {
         Kind::Folder(bindings) => bindings,
@@ -161,8 +164,8 @@ fn stands_first(bindings: &Labelled<Binding>, i: usize) -> bool
 }
 
 impl Module {
-    ghost use Rattle.biop_object.specs.Objects.{Object, ReadsModule, BeginsFramed};
-    ghost use Rattle.biop_object.specs.ObjectReading.{index_of, objects_of, stop_of, found_of, bindings_of};
+    ghost use Rattle.biop_object.specs.Objects.{ReadsModule, BeginsFramed};
+    ghost use Rattle.biop_object.specs.ObjectReading.{index_of, found_of, bindings_of};
     ghost use Rattle.biop_object.specs.declared.module.Span.{Span};
 
     /// Reads the index of a module. It takes time and memory in proportion to the module's size.
@@ -175,7 +178,7 @@ impl Module {
         ensures err { IfErr result (λ e. e.1 ≡ bytes) }
         ensures memory { IsErr result → BeginsFramed bytes.items }
         // The index that the other calls answer by is the one reading of the bytes.
-        ensures reads { IfOk result (λ m. ReadsModule 0 m (objects_of m) (stop_of m)) }
+        ensures reads { IfOk result (λ m. ReadsModule 0 m (index_of m).0 (index_of m).1) }
         ensures only { (objects : List Object) (stop : Option ℕ)
             → ReadsModule 0 bytes.items objects stop
             → IfOk result (λ m. (objects, stop) ≡ index_of m) }

@@ -1,6 +1,6 @@
 //! Reading BIOP messages from left to right.
 
-ghost use Rattle.std.specs.Prelude.{◌≡◌, ◌≤◌, ◌<◌, ◌+◌, ℕ, List, Ok, Err, length, take, drop, map, IfOk, IfErr, IfSome, IsOk, IsErr, IsErrOf};
+ghost use Rattle.std.specs.Prelude.{◌≡◌, ◌≤◌, ◌<◌, ◌+◌, ℕ, List, Ok, Err, length, take, drop, map, IfOk, IfErr, IfSome, IsOk, IsErr, IsErrOf, true, false};
 ghost use Rattle.oc_bytes.specs.Numbers.{IsBytes};
 ghost use Rattle.oc_bytes.specs.Outcome.{Gives};
 ghost use Rattle.oc_bytes.specs.Cause.{place_of};
@@ -8,8 +8,9 @@ ghost use Rattle.oc_bytes.specs.Cursor.{past, from_start, each_at, skip_reading}
 ghost use Rattle.oc_bytes.specs.Grammar.{read, enclosed, four};
 ghost use Rattle.ior_tap.specs.Iors as iors;
 ghost use Rattle.ior_tap.specs.IorReading.{ior_at};
-ghost use Rattle.biop_object.specs.Objects.{drop_zero, IsFile, view_binding, context, binding, file, folder, shape, heading, message, cut_off, framed};
-ghost use Rattle.biop_object.specs.Index.{view_kind, view_heading, view_indexed, view_index, cause};
+ghost use Rattle.biop_object.specs.Objects.{drop_zero, IsFile, view_binding, context, binding, shape, heading, message, shape_by};
+ghost use Rattle.biop_object.specs.Inner.Objects.{cut_off, framed};
+ghost use Rattle.biop_object.specs.Inner.Index.{view_kind, view_heading, view_indexed, view_index, cause};
 ghost use Rattle.biop_object.specs.ObjectReading.{object_at, index_of};
 ghost use Rattle.biop_object.specs.declared.reading.ReadFault.TheVariants.{Bad, NoMemory as OutOfMemory};
 
@@ -109,7 +110,8 @@ fn bindings_of(
 
 #[tactic(auto, unfolding(oc_bytes::specs::Grammar::read))]
 fn folder_of(alloc: Global, fields: &mut Fields<'_>) -> Result<Kind, ReadFault>
-    ensures { Gives (λ k. (view_kind k, fields.new)) cause result (read folder fields.old) }
+    ensures { Gives (λ k. (view_kind k, fields.new)) cause result
+        (read (shape_by false true fields.old.place) fields.old) }
 {
     let count = fields.u16()?;
     let bindings = bindings_of(alloc, fields, count)?;
@@ -119,7 +121,7 @@ fn folder_of(alloc: Global, fields: &mut Fields<'_>) -> Result<Kind, ReadFault>
 #[tactic(auto, unfolding(oc_bytes::specs::Grammar::read, oc_bytes::specs::Cursor::sized_at))]
 fn file_of(fields: &mut Fields<'_>) -> Result<Span, Cut>
     ensures { Gives (λ span. (IsFile span.first span.length, fields.new)) place_of result
-        (read (file fields.old.place) fields.old) }
+        (read (shape_by true false fields.old.place) fields.old) }
 {
     let length = fields.u32()? as usize;
     let first = fields.place();
@@ -148,11 +150,14 @@ fn pass_contexts(fields: &mut Fields<'_>, count: u8) -> Result<(), Cut>
     Ok(())
 }
 
-pub(crate) const FILE: [u8; 4] = *b"fil\0";
+/// The kind of a file.
+pub const FILE: [u8; 4] = *b"fil\0";
 
-pub(crate) const DIRECTORY: [u8; 4] = *b"dir\0";
+/// The kind of a folder that isn't the root.
+pub const DIRECTORY: [u8; 4] = *b"dir\0";
 
-pub(crate) const GATEWAY: [u8; 4] = *b"srg\0";
+/// The kind of a gateway, the root.
+pub const GATEWAY: [u8; 4] = *b"srg\0";
 
 /// What a message's body says, by the message's kind.
 #[tactic(auto, unfolding(oc_bytes::specs::Grammar::read))]

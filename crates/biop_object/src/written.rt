@@ -2,9 +2,11 @@
 
 ghost use Rattle.std.specs.Prelude.{◌≡◌, ◌≤◌, ◌<◌, ◌+◌, ◌∷◌, [], ◌++◌, ℕ, length, map, take, IfOk, OnOk, MatchOption, IsErrOf};
 ghost use Rattle.std.specs.List.{All, flat_map};
+ghost use Rattle.oc_bytes.specs.Outcome.{MakesList};
 ghost use Rattle.ior_tap.specs.Iors.{IsLocation, spelling};
 ghost use Rattle.module_groups.specs.declared.TheConstants.{GREATEST_ID};
-ghost use Rattle.biop_object.specs.Objects.{ReadsObject, IsFile, IsFolder, IsEntry, binding_of, file_spelling, folder_spelling, biop_prefix, kind_of, binding_spelling, binding_size, folder_size};
+ghost use Rattle.biop_object.specs.Objects.{ReadsObject, IsFile, IsFolder, IsEntry, binding_of, file_spelling, folder_spelling, kind_of, binding_spelling, binding_size, folder_size};
+ghost use Rattle.biop_object.specs.Inner.Objects.{biop_prefix};
 ghost use Rattle.biop_object.specs.declared.written.ObjectFault.TheVariants.{NoMemory as OutOfMemory};
 ghost use Rattle.path_tree.specs.declared.tree.TheConstants.{MOST_CONTENT};
 
@@ -17,6 +19,9 @@ use thiserror::Error;
 
 /// The most bytes of a folder's message. This project's own limit.
 pub const MOST_FOLDER_SIZE: u32 = 1_048_576;
+
+/// The bytes of a message's head: its magic, version, byte order, type and size. As many as the size says follow.
+pub const MESSAGE_HEAD: u32 = 12;
 
 /// The bytes of a file's message before its content.
 pub const FILE_FRONT: u32 = 44;
@@ -95,7 +100,7 @@ impl From<AllocError> for ObjectFault {
 pub fn encode_file(alloc: Global, key: &Key, content: &[u8]) -> Result<Vec<u8>, NoMemory>
     requires key { length key.now ≡ 4 }
     requires size { length content.now ≤ MOST_CONTENT }
-    ensures spells { IfOk result (λ bytes. bytes.items ≡ file_spelling key.now content.now) }
+    ensures spells { MakesList result (file_spelling key.now content.now) }
     ensures size { IfOk result (λ bytes. length bytes.items ≡ FILE_FRONT + length content.now) }
     ensures reads { IfOk result (λ bytes. (at : ℕ) → ReadsObject at bytes.items
         (record { key = key.now; shape = IsFile (at + FILE_FRONT) (length content.now) })) }
@@ -107,7 +112,7 @@ pub fn encode_file(alloc: Global, key: &Key, content: &[u8]) -> Result<Vec<u8>, 
 fn file_bytes(alloc: Global, key: &Key, content: &[u8]) -> Result<Vec<u8>, NoMemory>
     requires key { length key.now ≡ 4 }
     requires size { length content.now ≤ MOST_CONTENT }
-    ensures { IfOk result (λ bytes. bytes.items ≡ file_spelling key.now content.now) }
+    ensures { MakesList result (file_spelling key.now content.now) }
 {
     let length = content.len() as u32;
     let info = u64::from(length).to_be_bytes();
@@ -167,11 +172,17 @@ fn folder_bytes(
     requires entries { All IsEntry entries.now }
     requires size { size ≡ folder_size entries.now }
     requires small { size ≤ MOST_FOLDER_SIZE }
-    ensures spells { IfOk result (λ bytes. bytes.items ≡ folder_spelling kind key.now entries.now) }
+    ensures spells { MakesList result (folder_spelling kind key.now entries.now) }
     ensures room { OnOk result (All (λ w. IsLocation w.location) entries.now) }
 {
     let mut out = Writer::new(alloc);
-    put_front(&mut out, key.bytes(), kind.name(), &[], size - 32)?;
+    put_front(
+        &mut out,
+        key.bytes(),
+        kind.name(),
+        &[],
+        size - MESSAGE_HEAD - 20,
+    )?;
     out.put_u16(entries.len() as u16)?;
     put_bindings(&mut out, entries)?;
     Ok(out.done())

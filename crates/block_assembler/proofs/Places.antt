@@ -8,7 +8,8 @@ use Rattle.ddb_block.specs.Blocks.{block_count_of, block_span_of, block_of}
 use Rattle.block_assembler.specs.Blocks.{Bytes, AssemblerState, block_in, offer_of, is_new, after_forget, after_offer}
 use Rattle.block_assembler.specs.declared.Offer.{Offer}
 use Rattle.block_assembler.specs.declared.Offer.TheVariants.{WrongPlace, WrongLength, Again, New}
-use Rattle.block_assembler.specs.Kept.{blocks_from, written, view_assembler, IsKept}
+use Rattle.block_assembler.specs.Kept.{blocks_from, view_assembler}
+use Rattle.block_assembler.specs.Inner.Kept.{written, IsKept}
 use Rattle.block_assembler.specs.declared.kept.Assembler.TheInside.{Inside}
 
 -- ---- block by block

@@ -8,7 +8,8 @@ use Rattle.std.proofs.lemmas.Grind.{div_ceil_times}
 use Rattle.std.proofs.lemmas.Bool.{lt-ltb, le-ltb}
 use Rattle.ddb_block.specs.Blocks.{block_count_of, block_of}
 use Rattle.block_assembler.specs.Blocks.{Bytes, AssemblerState, join_all, empty_of, refilled}
-use Rattle.block_assembler.specs.Kept.{blocks_from, IsKept}
+use Rattle.block_assembler.specs.Kept.{blocks_from}
+use Rattle.block_assembler.specs.Inner.Kept.{IsKept}
 use Rattle.block_assembler.specs.declared.kept.Assembler.TheInside.{Inside}
 use Rattle.block_assembler.proofs.Places.{viewed, length_blocks, block_there}
 

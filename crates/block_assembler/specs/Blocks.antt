@@ -1,14 +1,13 @@
 -- Blocks that make a module.
-use Rattle.std.specs.Prelude.{◌≡◌, ℕ, ◌<◌, ◌≤◌, Bool, true, false, not, ◌&&◌, List, [], ◌∷◌, ◌++◌, length, replicate, Option, Some, None, is_some, nat_lt, ◌==◌, map, slice_set, slice_index_or, if◌then◌else◌}
+use Rattle.std.specs.Prelude.{◌≡◌, ℕ, ◌<◌, ◌≤◌, Bool, true, false, not, ◌&&◌, List, [], ◌∷◌, ◌++◌, length, replicate, Option, Some, None, is_some, nat_lt, ◌==◌, map, slice_set, slice_index_or, if◌then◌else◌, option_map}
+use Rattle.std.specs.Option.{option_zip}
 use Rattle.std.specs.List.{after_last, filter_map, range_with_len}
+pub use Rattle.oc_bytes.specs.Numbers.{Bytes}
 use Rattle.ddb_block.specs.Blocks.{block_count_of, block_span_of, block_of}
 use Rattle.ddb_block.specs.declared.TheConstants.{MOST_BLOCK_SIZE, MOST_BLOCKS}
 use Rattle.block_assembler.specs.declared.TheConstants.{MOST_MODULE_SIZE}
 use Rattle.block_assembler.specs.declared.Offer.{Offer}
 use Rattle.block_assembler.specs.declared.Offer.TheVariants.{WrongPlace, WrongLength, Again, New}
-
-abbrev pub Bytes : Type 0
-Bytes = List ℕ
 
 -- What a module's size and block size have to be. A block fills at most what a section has room for, and block numbers
 -- have 16 bits; the greatest size is this project's own rule.
@@ -51,14 +50,10 @@ after_offer a b bytes = if is_new (offer_of a b bytes) then record a { blocks = 
 abbrev pub after_forget : AssemblerState → ℕ → AssemblerState
 after_forget a b = record a { blocks = slice_set a.blocks b None }
 
-abbrev pub onto_all : Option Bytes → Option Bytes → Option Bytes
-onto_all (Some x) (Some xs) = Some (x ++ xs)
-onto_all _ _ = None
-
 -- the bytes, where each block is there
 abbrev pub join_all : List (Option Bytes) → Option Bytes
 join_all [] = Some []
-join_all (x ∷ xs) = onto_all x (join_all xs)
+join_all (x ∷ xs) = option_map (λ p. p.0 ++ p.1) (option_zip x (join_all xs))
 
 -- an assembler whose bytes were given away: what is left of it
 pub record EmptiedState : Type 0 where

@@ -37,7 +37,8 @@ impl Model for Assembler {
 
     ghost Value = { AssemblerState };
 
-    ghost use Rattle.block_assembler.specs.Kept.{view_assembler, IsKept};
+    ghost use Rattle.block_assembler.specs.Kept.{view_assembler};
+    ghost use Rattle.block_assembler.specs.Inner.Kept.{IsKept};
 
     ghost view = { view_assembler };
 
@@ -59,7 +60,8 @@ impl Model for Emptied {
 
     ghost Value = { EmptiedState };
 
-    ghost use Rattle.block_assembler.specs.Kept.{view_emptied, IsEmptied};
+    ghost use Rattle.block_assembler.specs.Kept.{view_emptied};
+    ghost use Rattle.block_assembler.specs.Inner.Kept.{IsEmptied};
 
     ghost view = { view_emptied };
 

@@ -1,7 +1,7 @@
 //! A block's bytes, put in their place.
 
 ghost use Rattle.std.specs.Prelude.{◌≡◌, ◌≤◌, ◌+◌, ◌++◌, length, take, drop, vec_capacity};
-ghost use Rattle.block_assembler.specs.Kept.{written};
+ghost use Rattle.block_assembler.specs.Inner.Kept.{written};
 
 /// Writes `from` from place `start` on. What the buffer has there already is overwritten, the rest is appended, and what
 /// it lacks before `start` becomes 0. The buffer has room for all of this, so no memory is asked for.

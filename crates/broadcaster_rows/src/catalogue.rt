@@ -1,8 +1,7 @@
 //! A catalogue: commits, and draws of what is sent next.
 ghost use Rattle.std.specs.Prelude.{◌≡◌, ◌==◌, if◌then◌else◌, IfOk};
 ghost use Rattle.std.specs.Arc.{arc_value};
-ghost use Rattle.std.specs.List.{All, Contains};
-ghost use Rattle.generation.specs.Layouts.{items_of};
+ghost use Rattle.generation.specs.Layouts.{AreItemsOf};
 
 use crate::journals::outcome_text;
 use crate::texts::{answered, each};
@@ -85,8 +84,7 @@ fn state(row: &Row<'_>, catalogue: &Catalogue) -> Line {
 
 /// Draws at most so many items.
 fn draw(row: &Row<'_>, after: usize, catalogue: &mut Catalogue) -> Result<Batch, RowFault>
-    ensures { IfOk result (λ b.
-        All (λ item. Contains (items_of (arc_value b.generation)) item) b.items.items) }
+    ensures { IfOk result (λ b. AreItemsOf (arc_value b.generation) b.items.items) }
 {
     let asked = row.long(after);
     if asked < 1 || asked > MOST_DRAWN {
@@ -132,7 +130,7 @@ fn sections_of_draw(
 
 /// Puts the sections of some items of a generation behind what stands.
 fn sections_text(mut line: Line, generation: &Generation, items: &[Item]) -> Line
-    requires { All (λ item. Contains (items_of generation.now) item) items.now }
+    requires { AreItemsOf generation.now items.now }
 {
     for item in items {
         line = line.between(" ").outcome(generation.section(*item));

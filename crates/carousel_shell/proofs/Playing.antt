@@ -13,7 +13,7 @@ use Rattle.rehearsal.specs.Reports.{report}
 use Rattle.history_merge.specs.Merges.{known_view}
 use Rattle.session.specs.Sessions.{IsSession}
 use Rattle.shell_streams.specs.Cuts.{Bytes}
-use Rattle.shell_streams.specs.Held.{Stopped, is_longer}
+use Rattle.shell_streams.specs.Packets.{Stopped, is_longer}
 use Rattle.shell_streams.specs.Sending.{OutputState, Puts}
 use Rattle.shell_streams.specs.declared.input.InputFault.{InputFault}
 use Rattle.shell_streams.specs.declared.input.InputFault.TheVariants as inputs

@@ -12,7 +12,8 @@ use Rattle.carousel_world.specs.declared.event.Reply.{Reply}
 use Rattle.history_merge.specs.Merges.{known_view}
 use Rattle.history_merge.specs.Merged.{is_open_by}
 use Rattle.session.specs.Sessions.{accepted_in, is_accepted}
-use Rattle.carousel_shell.specs.Big.{is_first, length_in, option_list, finale_lengths, length_more, counts_line, big_line}
+use Rattle.carousel_shell.specs.Big.{is_first, length_in, finale_lengths, counts_line, big_line}
+use Rattle.carousel_shell.specs.Inner.Big.{option_list, length_more}
 
 -- ---- one event more
 

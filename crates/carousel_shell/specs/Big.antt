@@ -1,6 +1,6 @@
 -- What `big` promises: a generated script's session is played, and one line of counts of it is written. The script and the line are this
 -- project's own.
-use Rattle.std.specs.Prelude.{◌⊎◌, ℕ, Bool, ◌||◌, not, nat_lt, List, [], ◌∷◌, ◌++◌, drop, length, Option, Some, None, if◌then◌else◌, codes}
+use Rattle.std.specs.Prelude.{◌⊎◌, ℕ, Bool, List, [], ◌∷◌, ◌++◌, drop, length, Option, Some, None, codes}
 use Rattle.std.specs.List.{filter, filter_map, sum}
 use Rattle.std.specs.Fmt.{decimal}
 use Rattle.path_resolver.specs.declared.answer.Answer.{Answer}
@@ -12,8 +12,7 @@ use Rattle.history_merge.specs.Merged.{is_open_by}
 use Rattle.session.specs.Sessions.{IsSession, accepted_in}
 use Rattle.session_script.specs.Generated.{generated_script}
 use Rattle.shell_streams.specs.Cuts.{Bytes}
-use Rattle.receiver_commands.specs.Over.{Over, IsUntouched, WritesAll, WritesPrefix}
-use Rattle.receiver_commands.specs.Ends.{EndsWriting}
+use Rattle.receiver_commands.specs.Over.{Over, IsUntouched, WritesAll, WritesPrefix, EndsWriting}
 use Rattle.receiver_commands.specs.declared.status.Status.{Status}
 use Rattle.receiver_commands.specs.declared.status.Status.TheVariants as status
 
@@ -41,14 +40,6 @@ length_in x = reply_length x.1
 -- the lengths of the files that the finales answer
 abbrev pub finale_lengths : List (Step × Reply) → List ℕ
 finale_lengths told = filter_map length_in (finales_in told)
-
-abbrev pub option_list : Option ℕ → List ℕ
-option_list (Some n) = n ∷ []
-option_list None = []
-
--- what one event more adds to them, where reader 1 made so many opens above it
-abbrev pub length_more : ℕ → Step × Reply → List ℕ
-length_more opens x = if nat_lt opens 64 || not (is_first x) then [] else option_list (length_in x)
 
 -- the line of these counts
 abbrev pub counts_line : (size commits files bytes : ℕ) → Bytes

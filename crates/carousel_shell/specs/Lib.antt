@@ -1,3 +1,4 @@
 pub mod Session
 pub mod Big
 pub mod Commands
+pub mod Inner

@@ -1,6 +1,6 @@
-ghost use Rattle.std.specs.Prelude.{◌≡◌, ◌≤◌, [], OnOk};
-ghost use Rattle.shell_streams.specs.Sending.{IsInTime, Puts};
-ghost use Rattle.receiver_commands.specs.Over.{sink_over};
+ghost use Rattle.std.specs.Prelude.{◌≡◌, ◌≤◌, OnOk};
+ghost use Rattle.shell_streams.specs.Sending.{IsInTime, Puts, IsFlushed};
+ghost use Rattle.receiver_commands.specs.Over.{out_over};
 ghost use Rattle.carousel_shell.specs.Big.{PlaysBig};
 
 use crate::counts::big_line;
@@ -32,9 +32,8 @@ pub(crate) fn play_generated<R: Threads + Wait + Sync, O: Output, G: Gate>(
 ) -> Status
     requires least { 1 ≤ size }
     requires most { size ≤ 16 }
-    requires empty { (O.state out.old).pending ≡ [] }
-    ensures plays { PlaysBig weigh.weights size result
-        (sink_over (O.state out.old) (O.state out.new)) }
+    requires empty { IsFlushed (O.state out.old) }
+    ensures plays { PlaysBig weigh.weights size result (out_over O.state out.old out.new) }
     ensures same { (O.state out.new).name ≡ (O.state out.old).name }
     ensures in_time { IsInTime (O.state out.old) (O.state out.new) }
 {
@@ -59,7 +58,7 @@ pub(crate) fn play_generated<R: Threads + Wait + Sync, O: Output, G: Gate>(
 /// Puts bytes, and writes them.
 fn put_all<O: Output>(bytes: &[u8], out: &mut O) -> Result<(), OutputFault>
     ensures puts { Puts result (O.state out.old) (O.state out.new) bytes.now }
-    ensures empty { OnOk result ((O.state out.new).pending ≡ []) }
+    ensures empty { OnOk result (IsFlushed (O.state out.new)) }
 {
     out.put(bytes)?;
     out.flush()

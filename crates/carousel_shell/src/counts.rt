@@ -1,12 +1,13 @@
 //! The counts of a generated session.
-ghost use Rattle.std.specs.Prelude.{◌≡◌, ◌+◌, ◌<◌, ◌^◌, ◌++◌, if◌then◌else◌, map, IfOk, OnOk};
+ghost use Rattle.std.specs.Prelude.{◌≡◌, ◌+◌, ◌<◌, ◌^◌, ◌++◌, if◌then◌else◌, map, OnOk};
 ghost use Rattle.std.specs.List.{sum};
-ghost use Rattle.std.specs.String.{string_bytes};
+ghost use Rattle.oc_bytes.specs.Outcome.{Spells, MakesList};
 ghost use Rattle.carousel_world.specs.Events.{view};
 ghost use Rattle.history_merge.specs.Merges.{known_view};
 ghost use Rattle.history_merge.specs.Merged.{is_open_by};
 ghost use Rattle.session.specs.Sessions.{accepted_in, is_accepted as is_accepted_by_name};
 ghost use Rattle.carousel_shell.specs.Big as specs;
+ghost use Rattle.carousel_shell.specs.Inner.Big as inner;
 
 use carousel_world::{Event, Reply};
 use oc_bytes::NoMemory;
@@ -23,8 +24,7 @@ pub(crate) fn big_line(
     size: u32,
     told: &[(Event, Reply)],
 ) -> Result<String, NoMemory>
-    ensures { IfOk result (λ line.
-        string_bytes line ≡ specs.big_line size (map known_view told.now)) }
+    ensures { Spells result (specs.big_line size (map known_view told.now)) }
 {
     let commits = accepted(told);
     let lengths = finale_lengths(alloc, told)?;
@@ -41,7 +41,7 @@ fn counts_line(
     files: usize,
     bytes: u128,
 ) -> Result<String, NoMemory>
-    ensures { IfOk result (λ line. string_bytes line ≡ specs.counts_line size commits files bytes) }
+    ensures { Spells result (specs.counts_line size commits files bytes) }
 {
     format!(in alloc; "big {size} editors {size} commits {commits} files {files} bytes {bytes}\n")
 }
@@ -67,8 +67,7 @@ fn is_accepted(reply: &Reply) -> bool
 
 /// How many bytes each file has that a finale answered.
 fn finale_lengths(alloc: Global, told: &[(Event, Reply)]) -> Result<Vec<u64>, NoMemory>
-    ensures { IfOk result (λ lengths.
-        lengths.items ≡ specs.finale_lengths (map known_view told.now)) }
+    ensures { MakesList result (specs.finale_lengths (map known_view told.now)) }
 {
     let mut lengths = Vec::new(alloc);
     let mut opens = 0;
@@ -82,7 +81,7 @@ fn finale_lengths(alloc: Global, told: &[(Event, Reply)]) -> Result<Vec<u64>, No
 /// Adds the length of a finale's file, where the first reader made so many opens above it.
 fn push_length(lengths: &mut Vec<u64>, opens: u64, one: &(Event, Reply)) -> Result<(), NoMemory>
     ensures { OnOk result
-        (lengths.new.items ≡ lengths.old.items ++ specs.length_more opens (known_view one.now)) }
+        (lengths.new.items ≡ lengths.old.items ++ inner.length_more opens (known_view one.now)) }
 {
     if opens < FIRST_OPENS || !is_first(&one.0) {
         return Ok(());

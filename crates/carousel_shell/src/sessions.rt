@@ -1,6 +1,6 @@
-ghost use Rattle.std.specs.Prelude.{◌≡◌, []};
-ghost use Rattle.shell_streams.specs.Sending.{IsInTime};
-ghost use Rattle.receiver_commands.specs.Over.{over, sink_over};
+ghost use Rattle.std.specs.Prelude.{◌≡◌};
+ghost use Rattle.shell_streams.specs.Sending.{IsInTime, IsFlushed};
+ghost use Rattle.receiver_commands.specs.Over.{over, out_over};
 ghost use Rattle.carousel_shell.specs.Session.{Plays};
 
 use cycle_planner::Weigh;
@@ -33,9 +33,9 @@ pub(crate) fn play_session<R: Threads + Wait + Sync, S: Source, O: Output, G: Ga
     gate: &G,
     weigh: Weigh,
 ) -> Status
-    requires { (O.state out.old).pending ≡ [] }
+    requires { IsFlushed (O.state out.old) }
     ensures plays { Plays weigh.weights result (over S.left S.faults source.old source.new)
-        (sink_over (O.state out.old) (O.state out.new)) }
+        (out_over O.state out.old out.new) }
     ensures same { (O.state out.new).name ≡ (O.state out.old).name }
     ensures in_time { IsInTime (O.state out.old) (O.state out.new) }
 {

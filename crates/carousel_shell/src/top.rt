@@ -1,13 +1,13 @@
-ghost use Rattle.std.specs.Prelude.{◌≡◌, false, [], map, Ok};
-ghost use Rattle.std.specs.String.{string_bytes};
+ghost use Rattle.std.specs.Prelude.{◌≡◌, false, [], Ok};
 ghost use Rattle.cycle_planner.specs.Weights.{AreWeights};
 ghost use Rattle.folder_playout.specs.Laws.{PlayoutsMeet};
+ghost use Rattle.shell_words.specs.Values.{word_bytes};
 ghost use Rattle.shell_words.specs.Words as commands;
 ghost use Rattle.watch_desk.specs.Prefixes.{prefixes_of};
-ghost use Rattle.shell_streams.specs.Sending.{IsInTime};
+ghost use Rattle.shell_streams.specs.Sending.{IsInTime, IsFlushed};
 ghost use Rattle.shell_commands.specs.Laws.{Receptions};
 ghost use Rattle.shell_commands.specs.Limits.{Limits};
-ghost use Rattle.receiver_commands.specs.Over.{over, sink_over};
+ghost use Rattle.receiver_commands.specs.Over.{over, out_over};
 ghost use Rattle.shell_commands.specs.Promises.{gives_notices, writes_store};
 ghost use Rattle.carousel_shell.specs.Commands.{KeepsAll, KeepsSession, PromisesSession};
 
@@ -53,13 +53,13 @@ pub fn run<R: Threads + Wait + Sync, S: Source, K: Sink, F: Folders, T: Store, N
 ) -> Status
     requires untold { N.told notices.old notices.old [] }
     ensures keeps { KeepsAll weigh.weights (prefixes_of filters.items)
-        (commands.command_of (map string_bytes words.now)) result
+        (commands.command_of (word_bytes words.now)) result
         (over S.left S.faults source.old source.new) (over K.written K.faults sink.old sink.new)
         (over F.tree F.faults folders.old folders.new) (over T.tree T.faults store.old store.new)
         (F.refused folders.new) (N.told notices.old notices.new) }
-    ensures stored { writes_store (commands.command_of (map string_bytes words.now)) ≡ false
+    ensures stored { writes_store (commands.command_of (word_bytes words.now)) ≡ false
         → store.new ≡ store.old }
-    ensures quiet { gives_notices (commands.command_of (map string_bytes words.now)) ≡ false
+    ensures quiet { gives_notices (commands.command_of (word_bytes words.now)) ≡ false
         → notices.new ≡ notices.old }
     ensures in_time { K.failed sink.old ≡ false → K.late sink.new ≡ K.late sink.old }
     ensures receptions { Receptions }
@@ -103,11 +103,10 @@ fn run_any<
     filters: Vec<Filter>,
 ) -> Status
     requires sized { commands.IsSized command }
-    requires pending { (O.state out.old).pending ≡ [] }
+    requires pending { IsFlushed (O.state out.old) }
     requires untold { N.told notices.old notices.old [] }
     ensures keeps { KeepsAll weigh.weights (prefixes_of filters.items) (Ok (commands.view command))
-        result (over S.left S.faults source.old source.new)
-        (sink_over (O.state out.old) (O.state out.new))
+        result (over S.left S.faults source.old source.new) (out_over O.state out.old out.new)
         (over F.tree F.faults folders.old folders.new) (over T.tree T.faults store.old store.new)
         (F.refused folders.new) (N.told notices.old notices.new) }
     ensures same { (O.state out.new).name ≡ (O.state out.old).name }
@@ -154,9 +153,8 @@ pub fn run_session<R: Threads + Wait + Sync, S: Source, K: Sink, G: Gate>(
     gate: &G,
     weigh: Weigh,
 ) -> Status
-    ensures keeps { KeepsSession weigh.weights (commands.command_of (map string_bytes words.now))
-        result (over S.left S.faults source.old source.new)
-        (over K.written K.faults sink.old sink.new) }
+    ensures keeps { KeepsSession weigh.weights (commands.command_of (word_bytes words.now)) result
+        (over S.left S.faults source.old source.new) (over K.written K.faults sink.old sink.new) }
     ensures in_time { K.failed sink.old ≡ false → K.late sink.new ≡ K.late sink.old }
     ensures receptions { Receptions }
     ensures playouts { PlayoutsMeet }
@@ -185,10 +183,9 @@ fn play_command<R: Threads + Wait + Sync, S: Source, O: Output, G: Gate>(
     weigh: Weigh,
 ) -> Status
     requires sized { commands.IsSized command.now }
-    requires pending { (O.state out.old).pending ≡ [] }
+    requires pending { IsFlushed (O.state out.old) }
     ensures promises { PromisesSession weigh.weights (commands.view command.now) result
-        (over S.left S.faults source.old source.new)
-        (sink_over (O.state out.old) (O.state out.new)) }
+        (over S.left S.faults source.old source.new) (out_over O.state out.old out.new) }
     ensures same { (O.state out.new).name ≡ (O.state out.old).name }
     ensures in_time { IsInTime (O.state out.old) (O.state out.new) }
 {

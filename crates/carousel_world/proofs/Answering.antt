@@ -9,12 +9,12 @@ use Rattle.ior_tap.specs.declared.Location.{Location}
 use Rattle.dsi_dii.specs.Controls.{identification_of}
 use Rattle.biop_object.specs.Names.{Layout, module_in, Thing, AFile, AFolder, AnOther, first_of_key, thing_in, thing_at, location_in, location_of, thing_named}
 use Rattle.biop_object.specs.Objects.{IsFolder, BindingFields}
-use Rattle.biop_object.specs.ObjectReading.{objects_of, found_of}
+use Rattle.biop_object.specs.ObjectReading.{found_of, index_of}
 use Rattle.biop_object.specs.declared.module.Found.{Found}
 use Rattle.generation.specs.Layouts.{gateway_location}
 use Rattle.generation.specs.Lawful.{IsNode, IsInside, Carries}
 use Rattle.generation.specs.Groups.{group_of}
-use Rattle.path_resolver.specs.Resolving.{by_binding, in_folder, goes_on, answer_at_end, Held, at_target, walk, answer_of}
+use Rattle.path_resolver.specs.Resolving.{by_binding, goes_on, answer_at_end, Held, at_target, walk, answer_of}
 use Rattle.path_resolver.specs.declared.answer.Answer.{Answer}
 use Rattle.path_resolver.specs.declared.answer.Answer.TheVariants as answers
 use Rattle.carousel_world.specs.Headline.{IsNodeAnswer, IsAnswer, modules_on}
@@ -39,7 +39,7 @@ pub record Standing (layout : Layout) (l : Location) : Type 0 where
   pub is : thing_at layout l ≡ Some thing
   pub bytes : Bytes
   pub listed : module_in layout l.module ≡ Some bytes
-  pub first : first_of_key bytes l.key (objects_of bytes) ≡ Some thing
+  pub first : first_of_key bytes l.key (index_of bytes).0 ≡ Some thing
 
 something : (o : Option Thing) (n : Node) → IsNode o n → (n ≡ NoSuch → ⊥) → (x : Thing) × (o ≡ Some x)
 something (Some x) n is there = (x, refl)
@@ -93,7 +93,7 @@ arrives carousel layout held holds node l d place s seek more here told =
 
 abbrev Inside : ℕ → Layout → Type 0
 Inside carousel layout = (m : ℕ) (bytes : Bytes) (key : Bytes) (bindings : List BindingFields) → module_in layout m ≡ Some bytes
-    → Contains (objects_of bytes) (record { key = key; shape = IsFolder bindings }) → All (IsInside layout carousel) bindings
+    → Contains (index_of bytes).0 (record { key = key; shape = IsFolder bindings }) → All (IsInside layout carousel) bindings
 
 -- the answer from a place on along these names
 abbrev Tells : ℕ → Layout → Held → PathNames → Node → Location → Option ℕ → Type 0
@@ -134,7 +134,7 @@ paths_on carousel layout node l d place n next e q = subst (λ o. IsNode (thing_
 through : (carousel : ℕ) (layout : Layout) (held : Held) (n : Bytes) (ns : PathNames) (node : PathNames → Node) (l : Location) (d : Option ℕ) → IsPlace carousel layout node l d
     → (bindings : List BindingFields) → thing_at layout l ≡ Some (AFolder bindings) → All (IsInside layout carousel) bindings
     → ((onward : Location) (known : Option ℕ) → IsPlace carousel layout (λ q. node (n ∷ q)) onward known → Tells carousel layout held ns (node (n ∷ ns)) onward known)
-    → IsAnswerIn layout (missing_of held (modules_on layout (location_of n (Some (AFolder bindings))) ns)) (node (n ∷ ns)) (in_folder (walk carousel held ns) n (Some bindings))
+    → IsAnswerIn layout (missing_of held (modules_on layout (location_of n (Some (AFolder bindings))) ns)) (node (n ∷ ns)) (by_binding (walk carousel held ns) (find (λ b. same_name n b.name) bindings))
 through carousel layout held n ns node l d place bindings is all next = go (find (λ b. same_name n b.name) bindings) refl where
   Goal : Option BindingFields → Type 0
   Goal f = IsAnswerIn layout (missing_of held (modules_on layout (location_in f) ns)) (node (n ∷ ns)) (by_binding (walk carousel held ns) f)
@@ -180,7 +180,7 @@ goes carousel layout held inside n ns node l d place s next = subst (λ o. Goal 
   go (AFile b) is sees = subst (Goal (Some (AFile b))) (sym (file_ends (walk carousel held ns) n l.module s.bytes b f sees))
       (no_way layout held ns (node (n ∷ ns)) (nothing_there (node (n ∷ ns)) (paths_on carousel layout node l d place n None (ap (location_of n) is) ns)))
   go (AFolder bindings) is sees =
-      let bound = binds (objects_of s.bytes) sees.0 bindings sees.2 in
+      let bound = binds (index_of s.bytes).0 sees.0 bindings sees.2 in
       subst (Goal (Some (AFolder bindings))) (sym (folder_goes_on (walk carousel held ns) n l.module s.bytes bindings f sees))
       (through carousel layout held n ns node l d place bindings is (inside l.module s.bytes bound.key bindings s.listed bound.has) next)
   go AnOther is sees = absurd (not_other (node []) (subst (λ x. IsNode x (node [])) is (place.paths [])))

@@ -14,7 +14,7 @@ use Rattle.ddb_block.specs.Message.{message_at}
 use Rattle.ddb_block.specs.Blocks.{block_at}
 use Rattle.oc_bytes.specs.Cursor.{each_at, sized_at}
 use Rattle.oc_bytes.specs.Grammar.{read}
-use Rattle.dsi_dii.specs.ControlReading.{dii_at, dsi_at, frame_at, private_at}
+use Rattle.dsi_dii.specs.Controls.{dii_at, dsi_at}
 use Rattle.biop_object.specs.ObjectReading.{object_at}
 use Rattle.generation.specs.Kept.{LayoutsAreLawful}
 use Rattle.generation.specs.Lawful.{ArePublishable, IsPublishable, layout_at, section_in}
@@ -144,15 +144,15 @@ premised lawful = record {
 -- ---- what is answered
 
 before : Tells received 25 (Some 1) (answers.NotYet 1)
-unfolding read message_at block_at each_at dii_at dsi_at object_at sized_at frame_at private_at
+unfolding read message_at block_at each_at dii_at dsi_at object_at sized_at
 before = record { label_is = refl; answer_is = refl }
 
 turned : Tells received 27 (Some 2) (answers.NotYet 1)
-unfolding read message_at block_at each_at dii_at dsi_at object_at sized_at frame_at private_at
+unfolding read message_at block_at each_at dii_at dsi_at object_at sized_at
 turned = record { label_is = refl; answer_is = refl }
 
 carried : Tells received 28 (Some 2) (answers.File seven)
-unfolding read message_at block_at each_at dii_at dsi_at object_at sized_at frame_at private_at
+unfolding read message_at block_at each_at dii_at dsi_at object_at sized_at
 carried = record { label_is = refl; answer_is = refl }
 
 pub carrying : LayoutsAreLawful → CarryingIsPremised

@@ -18,7 +18,8 @@ use Rattle.section_stream.specs.Groups.{IsBetween, layout_of, packets_of_group, 
 use Rattle.section_stream.specs.Rules as rules
 use Rattle.tuner_core.specs.Stands as tuning
 use Rattle.carousel_world.specs.Fates.{Arrival, fate_of, onto_arrivals, under, received_under}
-use Rattle.carousel_world.specs.DownView.{DownlinkState, DownlinkStands, Hears, begun_with, ended_with, packets_given, past_given}
+use Rattle.carousel_world.specs.DownView.{DownlinkState, DownlinkStands, begun_with, ended_with, packets_given, past_given}
+use Rattle.carousel_world.specs.Inner.DownView.{Hears}
 
 -- ---- fates
 

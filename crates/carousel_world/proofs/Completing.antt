@@ -4,6 +4,7 @@ use Rattle.std.specs.List.{All, Contains, fold, find, list_any}
 use Rattle.std.proofs.lemmas.Bool.{eq-eqb, eqb-true, cond-false, cond-true, and_from, true≢false, ne_eqb, eqb-false}
 use Rattle.std.proofs.lemmas.List.Elements.{All-head, All-tail, Contains-append_right}
 use Rattle.std.specs.Option.{option_map, unwrap_or}
+use Rattle.carousel_profile.specs.declared.TheConstants.{BLOCK_SIZE}
 use Rattle.path_tree.specs.Paths.{Bytes}
 use Rattle.ddb_block.specs.Blocks as ddb
 use Rattle.dsi_dii.specs.Controls.{DiiFields}
@@ -13,12 +14,14 @@ use Rattle.cycle_planner.specs.declared.Item.TheVariants.{Block}
 use Rattle.generation.specs.Lawful.{layout_at, version_in, dii_in, IsItem, EqualVersionsMeanEqualBytes, HasDii}
 use Rattle.generation.specs.Groups.{group_of}
 use Rattle.module_cache.specs.Joining.{outline, lists}
-use Rattle.module_cache.specs.Turns.{admitted, newest, heard_by, continued, with_joined, before}
+use Rattle.module_cache.specs.Turns.{admitted, newest, heard_by, continued, with_joined, before, Turn}
 use Rattle.module_cache.proofs.CallerLemmas.{find_map}
 use Rattle.tuner_core.specs.Heard.{Heard, Skipped, NoControl, NoBlock, ADsi, ADii, ABlock}
-use Rattle.tuner_core.specs.LookBack.{bytes_if_fits, block_among, module_among, fits}
-use Rattle.tuner_core.specs.Spans.{Span, stretch, earlier, version, identification, is_near}
-use Rattle.tuner_core.specs.Turns.{Turn, turnings, outlines, is_room, turns, joins, turn_after}
+use Rattle.tuner_core.specs.LookBack.{bytes_if_fits, block_among, fits}
+use Rattle.tuner_core.specs.Said as said
+use Rattle.module_cache.specs.Turns as back
+use Rattle.module_cache.specs.Spans.{Span}
+use Rattle.tuner_core.specs.Turns.{stretch, earlier, version, identification, is_near, turnings, outlines, is_room, turns, joins, turn_after}
 use Rattle.tuner_core.proofs.CallerLemmas.{by_admission, numbers, newest_distinct}
 use Rattle.carousel_world.specs.Headline.{is_line_whole, listing, is_whole_in, whole_by}
 use Rattle.carousel_world.specs.Receptions.{IsDiiOf}
@@ -50,7 +53,7 @@ head_gens k (g ∷ gs) false e = (gs, ap (λ x. x ∷ gs) (same (k == g) refl e)
   same false t e = let bad : not false ≡ false = subst (λ x. not x ≡ false) t e in cc
 
 -- the state at a place of the list, and what is heard from there on
-pub record AtPlace (carousel : ℕ) (ls : List Layout) (ts : List Turn) (rest : List (ℕ × Heard)) : Type 0 where
+pub record AtPlace (carousel : ℕ) (ls : List Layout) (ts : List (Turn Heard)) (rest : List (ℕ × Heard)) : Type 0 where
   pub top : ℕ
   pub published : top < length ls
   pub gens : List ℕ
@@ -58,7 +61,7 @@ pub record AtPlace (carousel : ℕ) (ls : List Layout) (ts : List Turn) (rest : 
   pub heard : AreHeardOf carousel ls top gens rest
 
 pub at_place : (carousel : ℕ) (ls : List Layout) → length ls ≤ 16384 → ((k : ℕ) → k < length ls → IsSent carousel ls k) → (top : ℕ) → top < length ls
-    → (gs : List ℕ) (ts : List Turn) → AreOf carousel ls top gs ts → (xs rest : List (ℕ × Heard)) → AreHeardOf carousel ls top gs (xs ++ rest)
+    → (gs : List ℕ) (ts : List (Turn Heard)) → AreOf carousel ls top gs ts → (xs rest : List (ℕ × Heard)) → AreHeardOf carousel ls top gs (xs ++ rest)
     → AtPlace carousel ls (fold turn_after ts (map (λ x. x.1) xs)) rest
 at_place carousel ls few sent top lt gs ts of [] rest heard = record { top = top; published = lt; gens = gs; are = of; heard = heard }
 at_place carousel ls few sent top lt gs ts of (x ∷ xs) rest heard =
@@ -68,24 +71,24 @@ at_place carousel ls few sent top lt gs ts of (x ∷ xs) rest heard =
 -- ---- the span of a DII of the newest turn
 
 -- the DII of this identification that is held
-abbrev pub span_of : ℕ → List Turn → Option Span
+abbrev pub span_of : ℕ → List (Turn Heard) → Option (Span Heard)
 span_of j ts = find (λ s. eqb (identification s.dii) j) (newest ts)
 
-heard_too : (j : ℕ) (h : Heard) (s : Span) (ss : List Span) → find (λ s. eqb (identification s.dii) j) ss ≡ Some s → find (λ s. eqb (identification s.dii) j) (map (heard_by h) ss) ≡ Some (heard_by h s)
+heard_too : (j : ℕ) (h : Heard) (s : Span Heard) (ss : List (Span Heard)) → find (λ s. eqb (identification s.dii) j) ss ≡ Some s → find (λ s. eqb (identification s.dii) j) (map (heard_by h) ss) ≡ Some (heard_by h s)
 heard_too j h s ss e = find_map (heard_by h) (λ s. eqb (identification s.dii) j) ss ∙ ap (option_map (heard_by h)) e
 
-continued_span : (j : ℕ) (h : Heard) (s : Span) (ts : List Turn) → span_of j ts ≡ Some s → span_of j (continued ts h) ≡ Some (heard_by h s)
+continued_span : (j : ℕ) (h : Heard) (s : Span Heard) (ts : List (Turn Heard)) → span_of j ts ≡ Some s → span_of j (continued ts h) ≡ Some (heard_by h s)
 continued_span j h s [] e = cc
 continued_span j h s (t ∷ ts) e = heard_too j h s (admitted t) e
 
-joined_span : (j : ℕ) (d : DiiFields) (s : Span) (ts : List Turn) → span_of j ts ≡ Some s → span_of j (with_joined (continued ts (ADii d)) d) ≡ Some (heard_by (ADii d) s)
+joined_span : (j : ℕ) (d : DiiFields) (s : Span Heard) (ts : List (Turn Heard)) → span_of j ts ≡ Some s → span_of j (with_joined (continued ts (ADii d)) d) ≡ Some (heard_by (ADii d) s)
 joined_span j d s [] e = cc
 joined_span j d s (t ∷ ts) e =
     find_append (λ s. eqb (identification s.dii) j) (map (heard_by (ADii d)) (admitted t)) (record { dii = d; kept = t.turning.kept; since = [] } ∷ [])
     ∙ ap (λ o. or_else o (find (λ s. eqb (identification s.dii) j) (record { dii = d; kept = t.turning.kept; since = [] } ∷ []))) (heard_too j (ADii d) s (admitted t) e)
 
 -- what doesn't turn is heard in it
-keeps_span : (j : ℕ) (s : Span) (ts : List Turn) (h : Heard) → ((d : DiiFields) → h ≡ ADii d → turns ts d ≡ false) → span_of j ts ≡ Some s → span_of j (turn_after ts h) ≡ Some (heard_by h s)
+keeps_span : (j : ℕ) (s : Span Heard) (ts : List (Turn Heard)) (h : Heard) → ((d : DiiFields) → h ≡ ADii d → turns ts d ≡ false) → span_of j ts ≡ Some s → span_of j (turn_after ts h) ≡ Some (heard_by h s)
 keeps_span j s ts (ADii d) none e =
     by_admission (λ us. span_of j us ≡ Some (heard_by (ADii d) s)) ts d (λ f. absurd (true≢false (sym f ∙ none d refl))) (λ f g. joined_span j d s ts e) (λ f g. continued_span j (ADii d) s ts e)
 keeps_span j s ts (ABlock b) none e = continued_span j (ABlock b) s ts e
@@ -108,17 +111,17 @@ gens_stay g k gs (NoControl c) up le = refl
 gens_stay g k gs (NoBlock c) up le = refl
 
 -- where the DII of identification j was heard, and then these
-pub record EndsIn (carousel : ℕ) (ls : List Layout) (g j : ℕ) (after : List Heard) (ts : List Turn) : Type 0 where
+pub record EndsIn (carousel : ℕ) (ls : List Layout) (g j : ℕ) (after : List Heard) (ts : List (Turn Heard)) : Type 0 where
   pub top : ℕ
   pub published : top < length ls
   pub gens : List ℕ
   pub of : AreOf carousel ls top (g ∷ gens) ts
-  pub span : Span
+  pub span : Span Heard
   pub found : span_of j ts ≡ Some span
   pub has : (h : Heard) → Contains after h → Contains span.since h
 
 none_turns : (carousel : ℕ) (ls : List Layout) (g top k : ℕ) → top ≤ k → g ≤ top → k < length ls → length ls ≤ 16384 → IsSent carousel ls k → (h : Heard) → IsSaidIn carousel ls k h → UpTo g h k
-    → (gs : List ℕ) (ts : List Turn) → AreOf carousel ls top (g ∷ gs) ts → (d : DiiFields) → h ≡ ADii d → turns ts d ≡ false
+    → (gs : List ℕ) (ts : List (Turn Heard)) → AreOf carousel ls top (g ∷ gs) ts → (d : DiiFields) → h ≡ ADii d → turns ts d ≡ false
 none_turns carousel ls g top k le low lt few sent (ADii e) said up gs ts of d f =
     let same : e ≡ d = dii_same e d f in
     turns_is carousel ls top k le lt few sent d (subst (IsDiiOf carousel ls k) same said) (g ∷ gs) ts of ∙ same_newer g k gs (omega (arith, up, le, low))
@@ -134,8 +137,8 @@ none_turns carousel ls g top k le low lt few sent (NoBlock b) said up gs ts of d
 contains_right : (xs ys : List Heard) (h : Heard) → Contains ys h → Contains (xs ++ ys) h
 contains_right xs ys h has = Contains-append_right xs ys h has
 
-stays : (carousel : ℕ) (ls : List Layout) → length ls ≤ 16384 → ((k : ℕ) → k < length ls → IsSent carousel ls k) → (g j top : ℕ) → top < length ls → g ≤ top → (gs : List ℕ) (ts : List Turn) → AreOf carousel ls top (g ∷ gs) ts
-    → (s : Span) → span_of j ts ≡ Some s → (before after : List Heard) → s.since ≡ before ++ after → (xs : List (ℕ × Heard)) → AreHeardOf carousel ls top (g ∷ gs) xs → All (λ x. UpTo g x.1 x.0) xs
+stays : (carousel : ℕ) (ls : List Layout) → length ls ≤ 16384 → ((k : ℕ) → k < length ls → IsSent carousel ls k) → (g j top : ℕ) → top < length ls → g ≤ top → (gs : List ℕ) (ts : List (Turn Heard)) → AreOf carousel ls top (g ∷ gs) ts
+    → (s : Span Heard) → span_of j ts ≡ Some s → (before after : List Heard) → s.since ≡ before ++ after → (xs : List (ℕ × Heard)) → AreHeardOf carousel ls top (g ∷ gs) xs → All (λ x. UpTo g x.1 x.0) xs
     → EndsIn carousel ls g j (after ++ map (λ x. x.1) xs) (fold turn_after ts (map (λ x. x.1) xs))
 stays carousel ls few sent g j top lt le gs ts of s found before after e [] heard upto = record {
   top = top;
@@ -159,8 +162,8 @@ stays carousel ls few sent g j top lt le gs ts of s found before after e (x ∷ 
 
 -- ---- a DII of the generation is admitted, or was
 
-pub record HasSpan (j : ℕ) (ts : List Turn) : Type 0 where
-  pub span : Span
+pub record HasSpan (j : ℕ) (ts : List (Turn Heard)) : Type 0 where
+  pub span : Span Heard
   pub found : span_of j ts ≡ Some span
 
 found_if : {X : Type 0} (p : X → Bool) (xs : List X) → list_any p xs ≡ true → (x : X) × (find p xs ≡ Some x)
@@ -170,16 +173,16 @@ found_if p (x ∷ xs) e = go (p x) refl (found_if p xs) where
   go true f rest = (x, cond-true _ _ _ f)
   go false f rest = let r = rest (rw f at e) in (r.0, cond-false _ _ _ f ∙ r.1)
 
-joins_there : (j : ℕ) (d : DiiFields) → eqb (identification d) j ≡ true → (ts : List Turn) → HasSpan j (with_joined (continued ts (ADii d)) d)
+joins_there : (j : ℕ) (d : DiiFields) → eqb (identification d) j ≡ true → (ts : List (Turn Heard)) → HasSpan j (with_joined (continued ts (ADii d)) d)
 joins_there j d mine [] = record { span = record { dii = d; kept = false; since = [] }; found = cond-true _ _ _ mine }
 joins_there j d mine (t ∷ ts) = go (find (λ s. eqb (identification s.dii) j) (map (heard_by (ADii d)) (admitted t))) refl where
-  new : Span
+  new : Span Heard
   new = record { dii = d; kept = t.turning.kept; since = [] }
 
   all : span_of j (with_joined (continued (t ∷ ts) (ADii d)) d) ≡ or_else (find (λ s. eqb (identification s.dii) j) (map (heard_by (ADii d)) (admitted t))) (find (λ s. eqb (identification s.dii) j) (record { dii = d; kept = t.turning.kept; since = [] } ∷ []))
   all = find_append (λ s. eqb (identification s.dii) j) (map (heard_by (ADii d)) (admitted t)) (record { dii = d; kept = t.turning.kept; since = [] } ∷ [])
 
-  go : (o : Option Span) → find (λ s. eqb (identification s.dii) j) (map (heard_by (ADii d)) (admitted t)) ≡ o → HasSpan j (with_joined (continued (t ∷ ts) (ADii d)) d)
+  go : (o : Option (Span Heard)) → find (λ s. eqb (identification s.dii) j) (map (heard_by (ADii d)) (admitted t)) ≡ o → HasSpan j (with_joined (continued (t ∷ ts) (ADii d)) d)
   go (Some s) e = record { span = s; found = all ∙ ap (λ o. or_else o (find (λ s. eqb (identification s.dii) j) (record { dii = d; kept = t.turning.kept; since = [] } ∷ []))) e }
   go None e = record {
     span = record { dii = d; kept = t.turning.kept; since = [] };
@@ -187,7 +190,7 @@ joins_there j d mine (t ∷ ts) = go (find (λ s. eqb (identification s.dii) j) 
   }
 
 -- the DIIs of the newest turn, where a DII of generation k doesn't turn
-of_one : (carousel : ℕ) (ls : List Layout) (top k : ℕ) (gs : List ℕ) (t : Turn) (ts : List Turn) → AreOf carousel ls top gs (t ∷ ts) → newer gs k ≡ false → AreOfOne carousel ls k (admitted t)
+of_one : (carousel : ℕ) (ls : List Layout) (top k : ℕ) (gs : List ℕ) (t : Turn Heard) (ts : List (Turn Heard)) → AreOf carousel ls top gs (t ∷ ts) → newer gs k ≡ false → AreOfOne carousel ls k (admitted t)
 of_one carousel ls top k [] t ts of e = absurd of
 of_one carousel ls top k (g ∷ gs) t ts of e =
     subst (λ n. AreOfOne carousel ls n (admitted t)) (same_gen (eqb k g) refl) (each_same (IsAdmitted carousel ls g top t.turning.kept) (λ s. IsDiiOf carousel ls g s.dii) (λ s a. a.dii) (admitted t) of.0.each) where
@@ -195,7 +198,7 @@ of_one carousel ls top k (g ∷ gs) t ts of e =
       same_gen true f = sym (eqb-true k g f)
       same_gen false f = let bad : not false ≡ false = subst (λ x. not x ≡ false) f e in cc
 
-dii_there : (carousel : ℕ) (ls : List Layout) (top k j : ℕ) → top ≤ k → k < length ls → length ls ≤ 16384 → IsSent carousel ls k → HasDii ls k j → 1 ≤ j → j ≤ 16 → (gs : List ℕ) (ts : List Turn) → AreOf carousel ls top gs ts → newest_distinct ts
+dii_there : (carousel : ℕ) (ls : List Layout) (top k j : ℕ) → top ≤ k → k < length ls → length ls ≤ 16384 → IsSent carousel ls k → HasDii ls k j → 1 ≤ j → j ≤ 16 → (gs : List ℕ) (ts : List (Turn Heard)) → AreOf carousel ls top gs ts → newest_distinct ts
     → HasSpan j (turn_after ts (ADii (dii_in carousel ls k j)))
 dii_there carousel ls top k j le lt few sent has some small gs ts of distinct =
     by_admission (HasSpan j) ts d
@@ -212,13 +215,13 @@ dii_there carousel ls top k j le lt few sent has some small gs ts of distinct =
     its : IsDiiOf carousel ls k (dii_in carousel ls k j)
     its = record { number = j; there = has; some = some; few = small; is = refl }
 
-    already : (ts : List Turn) → AreOf carousel ls top gs ts → newest_distinct ts → turns ts (dii_in carousel ls k j) ≡ false → joins ts (dii_in carousel ls k j) ≡ false → HasSpan j (continued ts (ADii (dii_in carousel ls k j)))
+    already : (ts : List (Turn Heard)) → AreOf carousel ls top gs ts → newest_distinct ts → turns ts (dii_in carousel ls k j) ≡ false → joins ts (dii_in carousel ls k j) ≡ false → HasSpan j (continued ts (ADii (dii_in carousel ls k j)))
     already [] of distinct f g = absurd (true≢false (sym (sound_of carousel ls k (dii_in carousel ls k j) sent its) ∙ f))
     already (t ∷ ts) of distinct f g = go (list_any (λ n. eqb n j) (numbers (admitted t))) refl where
       one : AreOfOne carousel ls k (admitted t)
       one = of_one carousel ls top k gs t ts of (sym (turns_is carousel ls top k le lt few sent (dii_in carousel ls k j) its gs (t ∷ ts) of) ∙ f)
 
-      in_numbers : (ss : List Span) → list_any (λ n. eqb n j) (numbers ss) ≡ list_any (λ s. eqb (identification s.dii) j) ss
+      in_numbers : (ss : List (Span Heard)) → list_any (λ n. eqb n j) (numbers ss) ≡ list_any (λ s. eqb (identification s.dii) j) ss
       in_numbers [] = refl
       in_numbers (s ∷ ss) = ap (λ b. eqb (identification s.dii) j || b) (in_numbers ss)
 
@@ -237,7 +240,7 @@ same_generation carousel ls g k j gt kt le of =
     sym (ap version of.is ∙ generation_is k of.number kt of.few) ∙ generation_is g j gt le
 
 pub ends_in : (carousel : ℕ) (ls : List Layout) → length ls ≤ 16384 → ((k : ℕ) → k < length ls → IsSent carousel ls k) → (g j : ℕ) → g < length ls → HasDii ls g j → 1 ≤ j → j ≤ 16
-    → (ts : List Turn) → newest_distinct ts → (x : ℕ × Heard) (rest : List (ℕ × Heard)) → AtPlace carousel ls ts (x ∷ rest) → x.1 ≡ ADii (dii_in carousel ls g j) → All (λ y. UpTo g y.1 y.0) rest
+    → (ts : List (Turn Heard)) → newest_distinct ts → (x : ℕ × Heard) (rest : List (ℕ × Heard)) → AtPlace carousel ls ts (x ∷ rest) → x.1 ≡ ADii (dii_in carousel ls g j) → All (λ y. UpTo g y.1 y.0) rest
     → EndsIn carousel ls g j (map (λ y. y.1) rest) (fold turn_after ts (map (λ y. y.1) (x ∷ rest)))
 ends_in carousel ls few sent g j lt own some small ts distinct (k, h) rest at e upto =
     let said : IsDiiOf carousel ls k (dii_in carousel ls g j) = subst (IsSaidIn carousel ls k) e at.heard.1.1.0 in
@@ -255,26 +258,26 @@ ends_in carousel ls few sent g j lt own some small ts distinct (k, h) rest at e 
 
 -- ---- each module is whole
 
-block_fits_here : (carousel : ℕ) (ls : List Layout) (g : ℕ) (held : DiiFields) (m b : ℕ) (bytes : Bytes) → held.download ≡ carousel → held.block_size ≡ 4066 → module_in (layout_at ls g) m ≡ Some bytes → b < ddb.block_count_of (length bytes) 4066
-    → bytes_if_fits held (line_of (version_in ls g) (m, bytes)) b (says carousel ls g (Block m b)) ≡ Some (ddb.block_of bytes 4066 b)
+block_fits_here : (carousel : ℕ) (ls : List Layout) (g : ℕ) (held : DiiFields) (m b : ℕ) (bytes : Bytes) → held.download ≡ carousel → held.block_size ≡ BLOCK_SIZE → module_in (layout_at ls g) m ≡ Some bytes → b < ddb.block_count_of (length bytes) BLOCK_SIZE
+    → bytes_if_fits held (line_of (version_in ls g) (m, bytes)) b (says carousel ls g (Block m b)) ≡ Some (ddb.block_of bytes BLOCK_SIZE b)
 block_fits_here carousel ls g held m b bytes own size listed lt =
     let same : module_of ls g m ≡ bytes = ap (λ o. unwrap_or o []) listed in
-    let x : ddb.Block = record { download = carousel; module_id = m; version = version_in ls g m; number = b; bytes = ddb.block_of bytes 4066 b } in
-    ap (λ y. bytes_if_fits held (line_of (version_in ls g) (m, bytes)) b (ABlock (record { download = carousel; module_id = m; version = version_in ls g m; number = b; bytes = ddb.block_of y 4066 b }))) same
-    ∙ cond-true (fits held (line_of (version_in ls g) (m, bytes)) b x) (Some (ddb.block_of bytes 4066 b)) None (fits_itself carousel held (version_in ls g) (m, bytes) b own size lt)
+    let x : ddb.Block = record { download = carousel; module_id = m; version = version_in ls g m; number = b; bytes = ddb.block_of bytes BLOCK_SIZE b } in
+    ap (λ y. bytes_if_fits held (line_of (version_in ls g) (m, bytes)) b (ABlock (record { download = carousel; module_id = m; version = version_in ls g m; number = b; bytes = ddb.block_of y BLOCK_SIZE b }))) same
+    ∙ cond-true (fits held (line_of (version_in ls g) (m, bytes)) b x) (Some (ddb.block_of bytes BLOCK_SIZE b)) None (fits_itself carousel held (version_in ls g) (m, bytes) b own size lt)
 
-module_whole : (carousel : ℕ) (ls : List Layout) → EqualVersionsMeanEqualBytes ls → (g top : ℕ) → top < length ls → g < length ls → (kept : Bool) (ts : List Turn) (s : Span) → IsRight carousel ls g top kept ts s
+module_whole : (carousel : ℕ) (ls : List Layout) → EqualVersionsMeanEqualBytes ls → (g top : ℕ) → top < length ls → g < length ls → (kept : Bool) (ts : List (Turn Heard)) (s : Span Heard) → IsRight carousel ls g top kept ts s
     → (m : ℕ) (bytes : Bytes) → module_in (layout_at ls g) m ≡ Some bytes → ((b : ℕ) → IsItem ls g (Block m b) → Contains s.since (says carousel ls g (Block m b)))
-    → module_among (stretch s (before s ts) (line_of (version_in ls g) (m, bytes))) s.dii (line_of (version_in ls g) (m, bytes)) ≡ Some bytes
+    → back.module_among said.block_in (stretch s (before s ts) (line_of (version_in ls g) (m, bytes))) s.dii (line_of (version_in ls g) (m, bytes)) ≡ Some bytes
 module_whole carousel ls law g top lt glt kept ts s r m bytes listed has =
     let line = line_of (version_in ls g) (m, bytes) in
     let held = dii_in carousel ls g (identification s.dii) in
     let all = earlier held line s.kept (before s ts) ++ s.since in
-    subst (λ d. module_among (earlier d line s.kept (before s ts) ++ s.since) d line ≡ Some bytes) (sym (admitted_is carousel ls g top kept s r.is))
-    (joined_all (block_among all held line) bytes 4066 (lit< tt)
+    subst (λ d. back.module_among said.block_in (earlier d line s.kept (before s ts) ++ s.since) d line ≡ Some bytes) (sym (admitted_is carousel ls g top kept s r.is))
+    (joined_all (block_among all held line) bytes BLOCK_SIZE (lit< tt)
     (λ b inside.
     let there : Contains all (says carousel ls g (Block m b)) = contains_right (earlier held line s.kept (before s ts)) s.since (says carousel ls g (Block m b)) (has b (glt, (bytes, listed, inside))) in
-    first_there (bytes_if_fits held line b) (ddb.block_of bytes 4066 b) all there.0 (says carousel ls g (Block m b))
+    first_there (bytes_if_fits held line b) (ddb.block_of bytes BLOCK_SIZE b) all there.0 (says carousel ls g (Block m b))
     (stretch_right carousel ls law (identification s.dii) g top lt s r.gens (before s ts) r.chain_is held (m, bytes) listed b)
     there.1 (ap (bytes_if_fits held line b) there.2 ∙ block_fits_here carousel ls g held m b bytes refl refl listed inside)))
 
@@ -288,14 +291,14 @@ turned_round a b = go (eqb a b) refl where
   go true e = sym (eq-eqb b a (sym (eqb-true a b e)))
   go false e = sym (ne_eqb b a (λ f. eqb-false a b e (sym f)))
 
-lists_is : (carousel : ℕ) (ls : List Layout) (g top : ℕ) (kept : Bool) (s : Span) → IsAdmitted carousel ls g top kept s → (m : ℕ) (bytes : Bytes) → module_in (layout_at ls g) m ≡ Some bytes
+lists_is : (carousel : ℕ) (ls : List Layout) (g top : ℕ) (kept : Bool) (s : Span Heard) → IsAdmitted carousel ls g top kept s → (m : ℕ) (bytes : Bytes) → module_in (layout_at ls g) m ≡ Some bytes
     → lists (outline s.dii) m ≡ eqb (identification s.dii) (group_of m)
 lists_is carousel ls g top kept s a m bytes listed =
     any_found m s.dii.modules ∙ ap (λ o. is_some o) (span_line carousel ls g top kept s a m bytes listed) ∙ line_there (eqb (group_of m) (identification s.dii)) (line_of (version_in ls g) (m, bytes))
     ∙ turned_round (group_of m) (identification s.dii)
 
 -- the DII that lists a module is the one of its group
-listing_is : (carousel : ℕ) (ls : List Layout) (g top : ℕ) (kept : Bool) (m : ℕ) (bytes : Bytes) → module_in (layout_at ls g) m ≡ Some bytes → (ss : List Span) → Each (IsAdmitted carousel ls g top kept) ss
+listing_is : (carousel : ℕ) (ls : List Layout) (g top : ℕ) (kept : Bool) (m : ℕ) (bytes : Bytes) → module_in (layout_at ls g) m ≡ Some bytes → (ss : List (Span Heard)) → Each (IsAdmitted carousel ls g top kept) ss
     → listing m ss ≡ find (λ s. eqb (identification s.dii) (group_of m)) ss
 listing_is carousel ls g top kept m bytes listed [] each = refl
 listing_is carousel ls g top kept m bytes listed (s ∷ ss) each =
@@ -303,8 +306,8 @@ listing_is carousel ls g top kept m bytes listed (s ∷ ss) each =
     ∙ ap (λ o. cond (eqb (identification s.dii) (group_of m)) (Some s) o) (listing_is carousel ls g top kept m bytes listed ss each.1)
 
 -- where each block was heard after the DII of its group
-pub whole_there : (carousel : ℕ) (ls : List Layout) → EqualVersionsMeanEqualBytes ls → (g top : ℕ) (gs : List ℕ) (ts : List Turn) → top < length ls → g < length ls → AreOf carousel ls top (g ∷ gs) ts
-    → (m : ℕ) (bytes : Bytes) → module_in (layout_at ls g) m ≡ Some bytes → (s : Span) → span_of (group_of m) ts ≡ Some s
+pub whole_there : (carousel : ℕ) (ls : List Layout) → EqualVersionsMeanEqualBytes ls → (g top : ℕ) (gs : List ℕ) (ts : List (Turn Heard)) → top < length ls → g < length ls → AreOf carousel ls top (g ∷ gs) ts
+    → (m : ℕ) (bytes : Bytes) → module_in (layout_at ls g) m ≡ Some bytes → (s : Span Heard) → span_of (group_of m) ts ≡ Some s
     → ((b : ℕ) → IsItem ls g (Block m b) → Contains s.since (says carousel ls g (Block m b))) → is_whole_in ts m ≡ true
 whole_there carousel ls law g top gs [] lt glt of m bytes listed s found has = absurd of
 whole_there carousel ls law g top gs (t ∷ ts) lt glt of m bytes listed s found has =

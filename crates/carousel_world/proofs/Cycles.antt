@@ -6,6 +6,7 @@ use Rattle.std.proofs.lemmas.Option.{same_Some}
 use Rattle.std.proofs.lemmas.List.Elements.{All-head, All-tail, All-nil, All-map, All-append, Contains-append_left, Contains-append_right}
 use Rattle.std.proofs.lemmas.List.FromFn.{length-range_with_len, get_or-range_with_len, length-map-range_with_len, get_or-map-range_with_len}
 use Rattle.std.specs.List.{All, Contains, flat_map, range_with_len}
+use Rattle.carousel_profile.specs.declared.TheConstants.{BLOCK_SIZE}
 use Rattle.path_tree.specs.Paths.{Bytes}
 use Rattle.biop_object.specs.Names.{Layout, module_in}
 use Rattle.cycle_planner.specs.Cycle.{Line, IsGroupOf, diis_of, blocks_of, round, greatest_weight, cycle_of}
@@ -30,19 +31,19 @@ below n = λ k d lt.
     rw is inside
 
 line_for : ℕ × Bytes → Line
-line_for m = (m.0, ddb.block_count_of (length m.1) 4066)
+line_for m = (m.0, ddb.block_count_of (length m.1) BLOCK_SIZE)
 
 blocks_are_items : (ls : List Layout) (g : ℕ) → g < length ls → (m : ℕ × Bytes) → module_in (layout_at ls g) m.0 ≡ Some m.1
-    → All (IsItem ls g) (blocks_of (m.0, ddb.block_count_of (length m.1) 4066))
+    → All (IsItem ls g) (blocks_of (m.0, ddb.block_count_of (length m.1) BLOCK_SIZE))
 blocks_are_items ls g lt m listed =
-    All-map (IsItem ls g) (λ b. Block m.0 b) (range_with_len 0 (ddb.block_count_of (length m.1) 4066))
-    (λ k d inside. (lt, (m.1, listed, below (ddb.block_count_of (length m.1) 4066) k d inside)))
+    All-map (IsItem ls g) (λ b. Block m.0 b) (range_with_len 0 (ddb.block_count_of (length m.1) BLOCK_SIZE))
+    (λ k d inside. (lt, (m.1, listed, below (ddb.block_count_of (length m.1) BLOCK_SIZE) k d inside)))
 
 modules_are_items : (ls : List Layout) (g : ℕ) → g < length ls → (ms : Layout) → All (λ m. module_in (layout_at ls g) m.0 ≡ Some m.1) ms
     → All (IsItem ls g) (flat_map blocks_of (lines_in ms))
 modules_are_items ls g lt [] all = All-nil (IsItem ls g)
 modules_are_items ls g lt (m ∷ ms) all =
-    All-append (IsItem ls g) (blocks_of (m.0, ddb.block_count_of (length m.1) 4066)) (flat_map blocks_of (lines_in ms))
+    All-append (IsItem ls g) (blocks_of (m.0, ddb.block_count_of (length m.1) BLOCK_SIZE)) (flat_map blocks_of (lines_in ms))
     (blocks_are_items ls g lt m (All-head (λ m. module_in (layout_at ls g) m.0 ≡ Some m.1) m ms all))
     (modules_are_items ls g lt ms (All-tail (λ m. module_in (layout_at ls g) m.0 ≡ Some m.1) m ms all))
 
@@ -51,7 +52,7 @@ dii_of_group : (ls : List Layout) (g : ℕ) → All (λ m. module_in (layout_at 
 dii_of_group ls g all j (inl e) = inl e
 dii_of_group ls g all j (inr h) =
     let layout = layout_at ls g in
-    let line : ℕ × Bytes → Line = λ m. (m.0, ddb.block_count_of (length m.1) 4066) in
+    let line : ℕ × Bytes → Line = λ m. (m.0, ddb.block_count_of (length m.1) BLOCK_SIZE) in
     let n : length (lines_in layout) ≡ length layout = length-map layout line in
     let x = get_or layout h.1.0 (0, []) in
     let is : h.0 ≡ line x = sym h.1.2 ∙ get_or-map line layout h.1.0 (0, []) h.0 (omega (arith, h.1.1, n)) in
@@ -75,21 +76,21 @@ sent_items carousel ls g weights cycles sent lt = each_repeated (IsItem ls g) cy
 
 -- ---- each item is in a cycle
 
-modules_have : (m b : ℕ) (bytes : Bytes) (ms : Layout) → module_in ms m ≡ Some bytes → b < ddb.block_count_of (length bytes) 4066 → Contains (flat_map blocks_of (lines_in ms)) (Block m b)
+modules_have : (m b : ℕ) (bytes : Bytes) (ms : Layout) → module_in ms m ≡ Some bytes → b < ddb.block_count_of (length bytes) BLOCK_SIZE → Contains (flat_map blocks_of (lines_in ms)) (Block m b)
 modules_have m b bytes [] e lt = absurd (none e) where
   none : None ≡ Some bytes → ⊥
   none e = cc
 modules_have m b bytes (n ∷ ns) e lt = by (eqb n.0 m) refl (λ h. modules_have m b bytes ns h lt) where
   front : List Item
-  front = blocks_of (n.0, ddb.block_count_of (length n.1) 4066)
+  front = blocks_of (n.0, ddb.block_count_of (length n.1) BLOCK_SIZE)
 
   by : (t : Bool) → eqb n.0 m ≡ t → (module_in ns m ≡ Some bytes → Contains (flat_map blocks_of (lines_in ns)) (Block m b)) → Contains (flat_map blocks_of (lines_in (n ∷ ns))) (Block m b)
   by true t rest =
       let same : n.1 ≡ bytes = same_Some n.1 bytes (rw t at e) in
-      let inside : b < ddb.block_count_of (length n.1) 4066 = subst (λ y. b < ddb.block_count_of (length y) 4066) (sym same) lt in
-      let here : get_or front b (Block m b) ≡ Block n.0 b = get_or-map-range_with_len (λ k. Block n.0 k) 0 (ddb.block_count_of (length n.1) 4066) b b (Block m b) inside (omega arith) in
+      let inside : b < ddb.block_count_of (length n.1) BLOCK_SIZE = subst (λ y. b < ddb.block_count_of (length y) BLOCK_SIZE) (sym same) lt in
+      let here : get_or front b (Block m b) ≡ Block n.0 b = get_or-map-range_with_len (λ k. Block n.0 k) 0 (ddb.block_count_of (length n.1) BLOCK_SIZE) b b (Block m b) inside (omega arith) in
       let there : Contains front (Block m b) =
-      (b, omega (arith, length-map-range_with_len (λ k. Block n.0 k) 0 (ddb.block_count_of (length n.1) 4066)), here ∙ ap (λ k. Block k b) (eqb-true n.0 m t)) in
+      (b, omega (arith, length-map-range_with_len (λ k. Block n.0 k) 0 (ddb.block_count_of (length n.1) BLOCK_SIZE)), here ∙ ap (λ k. Block k b) (eqb-true n.0 m t)) in
       Contains-append_left front (flat_map blocks_of (lines_in ns)) (Block m b) there
   by false t rest = Contains-append_right front (flat_map blocks_of (lines_in ns)) (Block m b) (rest (rw t at e))
 

@@ -14,7 +14,7 @@ use Rattle.ddb_block.specs.Message.{message_at}
 use Rattle.ddb_block.specs.Blocks.{block_at}
 use Rattle.oc_bytes.specs.Cursor.{each_at, sized_at}
 use Rattle.oc_bytes.specs.Grammar.{read}
-use Rattle.dsi_dii.specs.ControlReading.{dii_at, dsi_at, frame_at, private_at}
+use Rattle.dsi_dii.specs.Controls.{dii_at, dsi_at}
 use Rattle.biop_object.specs.ObjectReading.{object_at}
 use Rattle.generation.specs.Kept.{LayoutsAreLawful}
 use Rattle.generation.specs.Lawful.{ArePublishable, IsPublishable, layout_at, section_in}
@@ -137,15 +137,15 @@ premised lawful = record {
 -- ---- what is answered
 
 before : Tells received 3 (Some 1) answers.NoCarousel
-unfolding read message_at block_at each_at dii_at dsi_at object_at sized_at frame_at private_at
+unfolding read message_at block_at each_at dii_at dsi_at object_at sized_at
 before = record { label_is = refl; answer_is = refl }
 
 between : Tells received 6 (Some 2) (answers.NotYet 1)
-unfolding read message_at block_at each_at dii_at dsi_at object_at sized_at frame_at private_at
+unfolding read message_at block_at each_at dii_at dsi_at object_at sized_at
 between = record { label_is = refl; answer_is = refl }
 
 after : Tells received 9 (Some 2) (answers.File second_content)
-unfolding read message_at block_at each_at dii_at dsi_at object_at sized_at frame_at private_at
+unfolding read message_at block_at each_at dii_at dsi_at object_at sized_at
 after = record { label_is = refl; answer_is = refl }
 
 pub damage : LayoutsAreLawful → DamageIsPremised

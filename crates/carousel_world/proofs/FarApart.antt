@@ -7,7 +7,7 @@ use Rattle.oc_bytes.specs.Grammar.{read}
 use Rattle.path_tree.specs.Paths.{Bytes}
 use Rattle.ddb_block.specs.Message.{message_at}
 use Rattle.ddb_block.specs.Blocks.{block_at}
-use Rattle.dsi_dii.specs.ControlReading.{dii_at, dsi_at, frame_at, private_at}
+use Rattle.dsi_dii.specs.Controls.{dii_at, dsi_at}
 use Rattle.biop_object.specs.ObjectReading.{object_at}
 use Rattle.cycle_planner.specs.declared.Item.{Item}
 use Rattle.cycle_planner.specs.declared.Item.TheVariants.{Dsi, Dii, Block}
@@ -304,27 +304,27 @@ tells n label answer s = record {
 }
 
 before : Says 4 1 (answers.NotYet 1)
-unfolding read message_at block_at each_at dii_at dsi_at object_at sized_at frame_at private_at
+unfolding read message_at block_at each_at dii_at dsi_at object_at sized_at
 before = record { label_is = refl; answer_is = refl }
 
 turned : Says 6 256 (answers.NotYet 1)
-unfolding read message_at block_at each_at dii_at dsi_at object_at sized_at frame_at private_at
+unfolding read message_at block_at each_at dii_at dsi_at object_at sized_at
 turned = record { label_is = refl; answer_is = refl }
 
 damaged : Says 8 256 (answers.NotYet 1)
-unfolding read message_at block_at each_at dii_at dsi_at object_at sized_at frame_at private_at
+unfolding read message_at block_at each_at dii_at dsi_at object_at sized_at
 damaged = record { label_is = refl; answer_is = refl }
 
 after : Says 9 256 (answers.File (1 ∷ 2 ∷ 3 ∷ []))
-unfolding read message_at block_at each_at dii_at dsi_at object_at sized_at frame_at private_at
+unfolding read message_at block_at each_at dii_at dsi_at object_at sized_at
 after = record { label_is = refl; answer_is = refl }
 
 taken : block_there (candidates 256 (take 4 packets)) 140 0 ≡ Some file_alone
-unfolding read message_at block_at each_at dii_at dsi_at object_at sized_at frame_at private_at
+unfolding read message_at block_at each_at dii_at dsi_at object_at sized_at
 taken = refl
 
 kept : block_there (candidates 256 (take 7 packets)) 140 0 ≡ Some file_alone
-unfolding read message_at block_at each_at dii_at dsi_at object_at sized_at frame_at private_at
+unfolding read message_at block_at each_at dii_at dsi_at object_at sized_at
 kept = refl
 
 pub far : LayoutsAreLawful → FarIsPremised

@@ -1,7 +1,7 @@
 -- What a receiver holds that holds one generation, and what it finds at a location.
 use Rattle.std.proofs.Common.{◌≡◌, ℕ, ◌≤◌, ◌⊎◌, inl, inr, Bool, true, false, not, cond, ◌&&◌, ◌||◌, eqb, List, Option, Some, None, refl, ap, ◌∙◌, arith}
 use Rattle.std.specs.List.{find, list_any}
-use Rattle.std.specs.Option.{is_some}
+use Rattle.std.specs.Option.{is_some, option_map_or}
 use Rattle.std.proofs.lemmas.Bool.{ne_eqb, eq-eqb}
 use Rattle.path_tree.specs.Paths.{Bytes, PathNames}
 use Rattle.ior_tap.specs.declared.Location.{Location}
@@ -9,7 +9,7 @@ use Rattle.dsi_dii.specs.Controls.{identification_of}
 use Rattle.biop_object.specs.Names.{Layout, module_in}
 use Rattle.generation.specs.Groups.{group_of}
 use Rattle.generation.specs.Layouts.{gateway_location}
-use Rattle.path_resolver.specs.Resolving.{HeldModule, Held, at_target, in_module}
+use Rattle.path_resolver.specs.Resolving.{HeldModule, Held, at_target}
 use Rattle.path_resolver.specs.declared.answer.Answer.{Answer}
 use Rattle.path_resolver.specs.declared.answer.Answer.TheVariants as answers
 use Rattle.carousel_world.specs.Headline.{modules_on}
@@ -36,7 +36,7 @@ pub record HoldsOf (carousel : ℕ) (layout : Layout) (held : Held) : Type 0 whe
   pub number : ℕ
   pub label : held.label ≡ Some number
   pub delivery : ℕ
-  pub gateway : held.gateway ≡ Some (record { location = gateway_location carousel; delivery = Some delivery })
+  pub gateway : held.gateway ≡ Some (gateway_location carousel, Some delivery)
   pub delivered : identification_of delivery ≡ 1
   pub table : (m : ℕ) (bytes : Bytes) → module_in layout m ≡ Some bytes → IsListedIn held m bytes ⊎ IsUnlistedIn held m
 
@@ -74,7 +74,8 @@ pub record IsAwaited (carousel : ℕ) (held : Held) (l : Location) (d : Option �
 abbrev by_number : ℕ → Held → (Bytes → Answer) → Location → ℕ → Answer
 by_number carousel held seek l i =
     cond (not (eqb l.carousel carousel) || eqb i 0) answers.Elsewhere
-    (in_module seek l.module (cond (list_any (λ k. eqb k i) held.held) (answers.Dangling l.module) (answers.NotYet l.module)) (find (λ h. eqb h.identification i && eqb h.line.id l.module) held.table))
+    (option_map_or (λ (h : HeldModule). cond h.line.compressed (answers.Compressed l.module) (option_map_or seek h.bytes (answers.NotYet l.module)))
+    (find (λ h. eqb h.identification i && eqb h.line.id l.module) held.table) (cond (list_any (λ k. eqb k i) held.held) (answers.Dangling l.module) (answers.NotYet l.module)))
 
 not_zero : (i : ℕ) → 1 ≤ i → eqb i 0 ≡ false
 not_zero i le = ne_eqb i 0 (λ e. zero_not i e le) where

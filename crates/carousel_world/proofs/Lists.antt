@@ -3,7 +3,8 @@ use Rattle.std.proofs.Common.{◌≡◌, ℕ, zero, suc, ◌+◌, ◌*◌, ◌<�
 use Rattle.std.proofs.lemmas.Grind.{div_ceil_times}
 use Rattle.std.proofs.lemmas.List.Elements.{All-head, All-tail}
 use Rattle.std.specs.List.{All, filter_map, cons_option, last_or, list_any, range_with_len}
-use Rattle.block_assembler.specs.Blocks.{Bytes, join_all, onto_all, first_of}
+use Rattle.std.specs.Option.{option_map, option_zip}
+use Rattle.block_assembler.specs.Blocks.{Bytes, join_all, first_of}
 use Rattle.ddb_block.specs.Blocks.{block_count_of, block_of}
 
 -- ---- blocks
@@ -26,7 +27,7 @@ joined_all_from f bytes k a (suc n) h =
     let here : f a ≡ Some (block_of bytes k a) = h a (omega arith) in
     rw (here, rest) (ap (λ (x : Bytes). Some x) (sym (next_blocks bytes k a n)))
 
-onto_maybe : (o p : Option Bytes) (x y : Bytes) → MaybeIs o x → MaybeIs p y → MaybeIs (onto_all o p) (x ++ y)
+onto_maybe : (o p : Option Bytes) (x y : Bytes) → MaybeIs o x → MaybeIs p y → MaybeIs (option_map (λ (q : Bytes × Bytes). q.0 ++ q.1) (option_zip o p)) (x ++ y)
 onto_maybe o p x y (inl e) (inl h) = inl (rw (e, h) refl)
 onto_maybe o p x y (inl e) (inr h) = inr (rw (e, h) refl)
 onto_maybe o p x y (inr e) h = inr (rw e refl)

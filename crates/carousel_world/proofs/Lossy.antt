@@ -16,7 +16,7 @@ use Rattle.ddb_block.specs.Message.{message_at}
 use Rattle.ddb_block.specs.Blocks.{block_at}
 use Rattle.oc_bytes.specs.Cursor.{each_at, sized_at}
 use Rattle.oc_bytes.specs.Grammar.{read}
-use Rattle.dsi_dii.specs.ControlReading.{dii_at, dsi_at, frame_at, private_at}
+use Rattle.dsi_dii.specs.Controls.{dii_at, dsi_at}
 use Rattle.biop_object.specs.ObjectReading.{object_at}
 use Rattle.generation.specs.Kept.{LayoutsAreLawful}
 use Rattle.generation.specs.Layouts.{GenerationState}
@@ -274,15 +274,15 @@ unfolding kept_modules least_with groups_from
 last_items = refl
 
 first_opened : reply_to drawn_once (Open 1 the_path) ≡ replies.Opened (Some 1) answers.NoCarousel
-unfolding read message_at block_at each_at dii_at dsi_at object_at sized_at frame_at private_at
+unfolding read message_at block_at each_at dii_at dsi_at object_at sized_at
 first_opened = refl
 
 second_opened : reply_to drawn_twice (Open 1 the_path) ≡ replies.Opened (Some 2) (answers.NotYet 1)
-unfolding read message_at block_at each_at dii_at dsi_at object_at sized_at frame_at private_at
+unfolding read message_at block_at each_at dii_at dsi_at object_at sized_at
 second_opened = refl
 
 last_opened : reply_to after_run (Open 2 the_path) ≡ replies.Opened (Some 2) (answers.File second_content)
-unfolding read message_at block_at each_at dii_at dsi_at object_at sized_at frame_at private_at
+unfolding read message_at block_at each_at dii_at dsi_at object_at sized_at
 last_opened = refl
 
 run : Leads (initial_world 1 ones) lossy_run after_run

@@ -5,6 +5,7 @@ use Rattle.std.proofs.lemmas.List.Elements.{All-head, All-tail, All-cons, All-ni
 use Rattle.std.proofs.lemmas.List.Sums.{sum_by-cons}
 use Rattle.std.specs.List.{All, AllPairs, list_all, list_any, sum_by, filter}
 use Rattle.std.proofs.lemmas.List.Kept.{AllPairs-filter}
+use Rattle.carousel_profile.specs.declared.TheConstants.{BLOCK_SIZE}
 use Rattle.path_tree.specs.Paths.{Bytes}
 use Rattle.path_tree.specs.Trees.{Tree}
 use Rattle.ddb_block.specs.Blocks.{block_count_of}
@@ -15,7 +16,7 @@ use Rattle.generation.specs.Lawful.{Lawful, IsLayout, layout_at, version_in, dii
 use Rattle.generation.specs.Groups.{group_of, is_in_group, group_in, dii_transaction}
 use Rattle.tuner_core.specs.Limits.{no_id_twice, is_small}
 use Rattle.tuner_core.specs.LookBack.{is_sound}
-use Rattle.tuner_core.specs.Spans.{version}
+use Rattle.tuner_core.specs.Turns.{version}
 use Rattle.generation.proofs.CallerLemmas.{at_layout, few_of_group, rising_few}
 
 -- a generation whose layout keeps the limits
@@ -169,13 +170,13 @@ no_twice version (n ∷ ns) rising =
     (λ k d lt. let above : n.0 < (get_or ns k d).0 = above_first n ns rising k d lt in ne_eqb (get_or ns k d).0 n.0 (λ e. omega arith)))))
     (no_twice version ns (rest_rising n ns rising))
 
-pub few_blocks : (size : ℕ) → size ≤ 16842752 → block_count_of size 4066 ≤ 65536
+pub few_blocks : (size : ℕ) → size ≤ 16842752 → block_count_of size BLOCK_SIZE ≤ 65536
 few_blocks size le = omega arith
 
-pub small_line : (version : ℕ → ℕ) (m : ℕ × Bytes) → length m.1 ≤ 16842752 → is_small 4066 (line_of version m) ≡ true
+pub small_line : (version : ℕ → ℕ) (m : ℕ × Bytes) → length m.1 ≤ 16842752 → is_small BLOCK_SIZE (line_of version m) ≡ true
 small_line version m le =
-    and_from (leb (length m.1) 16842752) (leb (block_count_of (length m.1) 4066) 65536)
-    (le-leb (length m.1) 16842752 le) (le-leb (block_count_of (length m.1) 4066) 65536 (few_blocks (length m.1) le))
+    and_from (leb (length m.1) 16842752) (leb (block_count_of (length m.1) BLOCK_SIZE) 65536)
+    (le-leb (length m.1) 16842752 le) (le-leb (block_count_of (length m.1) BLOCK_SIZE) 65536 (few_blocks (length m.1) le))
 
 pub same_total : (version : ℕ → ℕ) (layout : Layout) → sum_by (λ (l : ModuleLine). l.size) (map (line_of version) layout) ≡ sum_by (λ m. length m.1) layout
 same_total version [] = refl
@@ -201,8 +202,8 @@ is_taken carousel ls g j sent some few =
     let total : sum_by (λ (l : ModuleLine). l.size) lines ≤ 268435456 = omega (arith, same_total (version_in ls g) ms, part_of_sum j (layout_at ls g), sent.total) in
     let other : eqb (identification_of (dii_transaction g j)) 0 ≡ false = ne_eqb _ _ (λ e. zero_not (identification_of (dii_transaction g j)) j (number_is g j few) e some) in
     let named : not (eqb (identification_of (dii_transaction g j)) 0) ≡ true = ap not other in
-    let small : list_all (is_small 4066) lines ≡ true = each_all (is_small 4066) lines
-    (All-map (λ l. is_small 4066 l ≡ true) (line_of (version_in ls g)) ms
+    let small : list_all (is_small BLOCK_SIZE) lines ≡ true = each_all (is_small BLOCK_SIZE) lines
+    (All-map (λ l. is_small BLOCK_SIZE l ≡ true) (line_of (version_in ls g)) ms
     (λ k d lt. small_line (version_in ls g) (get_or ms k d) (All-filter (is_in_group j) (λ m. length m.1 ≤ 16842752) (layout_at ls g) sent.sizes k d lt))) in
     let little : leb (sum_by (λ (l : ModuleLine). l.size) lines) 268435456 ≡ true = le-leb (sum_by (λ (l : ModuleLine). l.size) lines) 268435456 total in
     let once : no_id_twice lines ≡ true = no_twice (version_in ls g) ms (AllPairs-filter (λ m n. m.0 < n.0) (is_in_group j) (layout_at ls g) sent.rising) in

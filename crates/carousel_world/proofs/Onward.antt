@@ -9,12 +9,11 @@ use Rattle.dsmcc_section.specs.Sections as sections
 use Rattle.dsmcc_section.specs.declared.Skip.{Skip}
 use Rattle.biop_object.specs.Names.{Layout}
 use Rattle.generation.specs.Lawful.{Lawful}
-use Rattle.module_cache.specs.Turns.{continued, with_turning, with_joined}
+use Rattle.module_cache.specs.Turns.{continued, with_turning, with_joined, Turn}
 use Rattle.section_stream.specs.Cuts.{candidates}
 use Rattle.section_stream.specs.Laws.{CutsComeInOrder}
 use Rattle.tuner_core.specs.Heard.{Heard, Skipped, NoControl, NoBlock, ADsi, ADii, ABlock, as_heard, heard_section}
-use Rattle.tuner_core.specs.Spans.{label_in, is_near, version}
-use Rattle.tuner_core.specs.Turns.{Turn, turnings, turn_after, label_of}
+use Rattle.tuner_core.specs.Turns.{label_in, is_near, version, turnings, turn_after}
 use Rattle.tuner_core.proofs.CallerLemmas.{by_admission}
 use Rattle.carousel_world.specs.Broadcasts.{Broadcast, SendsInOrder, IsAscribed}
 use Rattle.carousel_world.specs.Premises.{Ascribed, AcceptedAreSent, IsFromGeneration}
@@ -27,12 +26,12 @@ use Rattle.carousel_world.proofs.Premising.{Framed, InOrder, each_said, none_bac
 -- ---- the label, without what the blocks are
 
 -- the label is the generation of the DII that turned last, which is no later than this one
-abbrev pub IsLabelled : ℕ → List Layout → ℕ → List Turn → Type 0
+abbrev pub IsLabelled : ℕ → List Layout → ℕ → List (Turn Heard) → Type 0
 IsLabelled carousel ls top [] = Unit {0}
 IsLabelled carousel ls top (t ∷ ts) =
-    (g : ℕ) × ((g ≤ top) × (IsDiiOf carousel ls g t.turning.dii × (label_of (t ∷ ts) ≡ Some g)))
+    (g : ℕ) × ((g ≤ top) × (IsDiiOf carousel ls g t.turning.dii × (label_in (turnings (t ∷ ts)) ≡ Some g)))
 
-goes_on : (carousel : ℕ) (ls : List Layout) (top k : ℕ) → top ≤ k → (h : Heard) (ts : List Turn)
+goes_on : (carousel : ℕ) (ls : List Layout) (top k : ℕ) → top ≤ k → (h : Heard) (ts : List (Turn Heard))
     → IsLabelled carousel ls top ts → IsLabelled carousel ls k (continued ts h)
 goes_on carousel ls top k le h [] at = tt
 goes_on carousel ls top k le h (t ∷ ts) at =
@@ -45,7 +44,7 @@ begun carousel ls k lt d of keep =
     (k, (omega arith, (of, ap (λ (n : ℕ). Some n) (version_is carousel ls k d lt of))))
 
 turned : (carousel : ℕ) (ls : List Layout) (top k : ℕ) → top ≤ k → k < 16384 → (d : DiiFields)
-    → IsDiiOf carousel ls k d → (keep : Bool) (ts : List Turn) → IsLabelled carousel ls top ts
+    → IsDiiOf carousel ls k d → (keep : Bool) (ts : List (Turn Heard)) → IsLabelled carousel ls top ts
     → IsLabelled carousel ls k (with_turning ts d keep)
 turned carousel ls top k le lt d of keep [] at = begun carousel ls k lt d of keep
 turned carousel ls top k le lt d of keep (t ∷ ts) at =
@@ -56,7 +55,7 @@ turned carousel ls top k le lt d of keep (t ∷ ts) at =
     (k, (omega arith, (of, rw (was, apart) (ap (λ (n : ℕ). Some n) (sums at.0 k upto lt)))))
 
 joined : (carousel : ℕ) (ls : List Layout) (top k : ℕ) → top ≤ k → k < 16384 → (d : DiiFields)
-    → IsDiiOf carousel ls k d → (ts : List Turn) → IsLabelled carousel ls top ts
+    → IsDiiOf carousel ls k d → (ts : List (Turn Heard)) → IsLabelled carousel ls top ts
     → IsLabelled carousel ls k (with_joined (continued ts (ADii d)) d)
 joined carousel ls top k le lt d of [] at = begun carousel ls k lt d of false
 joined carousel ls top k le lt d of (t ∷ ts) at =
@@ -64,7 +63,7 @@ joined carousel ls top k le lt d of (t ∷ ts) at =
 
 -- one candidate more, of generation k
 one_more : (carousel : ℕ) (ls : List Layout) (top k : ℕ) → top ≤ k → k < 16384 → (h : Heard)
-    → IsSaidIn carousel ls k h → (ts : List Turn) → IsLabelled carousel ls top ts
+    → IsSaidIn carousel ls k h → (ts : List (Turn Heard)) → IsLabelled carousel ls top ts
     → IsLabelled carousel ls k (turn_after ts h)
 one_more carousel ls top k le lt (ADii d) said ts at =
     by_admission (IsLabelled carousel ls k) ts d
@@ -81,8 +80,8 @@ one_more carousel ls top k le lt (NoBlock c) said ts at = absurd said
 
 -- ---- the next candidate is of no generation below it
 
-here : (carousel : ℕ) (ls : List Layout) (top : ℕ) (ts : List Turn) → IsLabelled carousel ls top ts
-    → (h label : ℕ) → top ≤ h → label_of ts ≡ Some label → label ≤ h
+here : (carousel : ℕ) (ls : List Layout) (top : ℕ) (ts : List (Turn Heard)) → IsLabelled carousel ls top ts
+    → (h label : ℕ) → top ≤ h → label_in (turnings ts) ≡ Some label → label ≤ h
 here carousel ls top [] at h label le e = cc
 here carousel ls top (t ∷ ts) at h label le e =
     let same : at.0 ≡ label = same_Some at.0 label (sym at.1.1.1 ∙ e) in
@@ -90,9 +89,9 @@ here carousel ls top (t ∷ ts) at h label le e =
 
 none_below : (carousel : ℕ) (ls : List Layout) → length ls ≤ 16384
     → (cs : List Bytes) (of : OfGeneration) → EachIsSaid carousel ls cs of → NoneGoesBack of
-    → (top : ℕ) → ((i g : ℕ) → of i g → top ≤ g) → (ts : List Turn) → IsLabelled carousel ls top ts
+    → (top : ℕ) → ((i g : ℕ) → of i g → top ≤ g) → (ts : List (Turn Heard)) → IsLabelled carousel ls top ts
     → (j h label : ℕ) → of j h
-    → label_of (fold turn_after ts (map as_heard (take j cs))) ≡ Some label → label ≤ h
+    → label_in (turnings (fold turn_after ts (map as_heard (take j cs)))) ≡ Some label → label ≤ h
 none_below carousel ls few cs of says order top above ts at zero h label p e =
     here carousel ls top ts at h label (above 0 h p) e
 none_below carousel ls few [] of says order top above ts at (suc j) h label p e =
@@ -105,8 +104,8 @@ none_below carousel ls few (c ∷ cs) of says order top above ts at (suc j) h la
   where
     Rest : Type 0
     Rest = (k : ℕ) → ((i g : ℕ) → of (suc i) g → k ≤ g)
-        → (us : List Turn) → IsLabelled carousel ls k us
-        → label_of (fold turn_after us (map as_heard (take j cs))) ≡ Some label → label ≤ h
+        → (us : List (Turn Heard)) → IsLabelled carousel ls k us
+        → label_in (turnings (fold turn_after us (map as_heard (take j cs)))) ≡ Some label → label ≤ h
 
     by : (r : Result sections.Fields Skip) → sections.read c ≡ r → Rest → label ≤ h
     by (Err skip) is rest =

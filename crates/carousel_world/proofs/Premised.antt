@@ -7,6 +7,7 @@ use Rattle.std.proofs.lemmas.List.Elements.{All-nil, All-append, All-map, All-he
 use Rattle.std.proofs.lemmas.List.Sums.{AllPass-from_list_all}
 use Rattle.std.proofs.lemmas.List.{get_or-map, length-map}
 use Rattle.std.proofs.lemmas.Option.{same_Some, slice_get-get_or}
+use Rattle.carousel_profile.specs.declared.TheConstants.{BLOCK_SIZE}
 use Rattle.path_tree.specs.Paths.{Bytes}
 use Rattle.path_tree.specs.Trees.{Tree}
 use Rattle.biop_object.specs.Names.{Layout, module_in}
@@ -123,12 +124,12 @@ alone bytes m x e = go (1 == m) refl e where
   go true h e = (eqb-true 1 m h, sym (same_Some bytes x e))
   go false h e = cc
 
-pub its_blocks : (ls : List Layout) (g : ℕ) (bytes : Bytes) (after : List Bytes) (carousel count : ℕ) → layout_at ls g ≡ (1, bytes) ∷ [] → block_count_of (length bytes) 4066 ≡ count
+pub its_blocks : (ls : List Layout) (g : ℕ) (bytes : Bytes) (after : List Bytes) (carousel count : ℕ) → layout_at ls g ≡ (1, bytes) ∷ [] → block_count_of (length bytes) BLOCK_SIZE ≡ count
     → ((b : ℕ) → b < count → Contains after (section_in carousel ls g (Block 1 b))) → (m b : ℕ) → IsItem ls g (Block m b) → Contains after (section_in carousel ls g (Block m b))
 its_blocks ls g bytes after carousel count layout is has m b item =
     let there : module_in ((1, bytes) ∷ []) m ≡ Some item.1.0 = subst (λ l. module_in l m ≡ Some item.1.0) layout item.1.1 in
     let which = alone bytes m item.1.0 there in
-    let below : b < block_count_of (length bytes) 4066 = subst (λ x. b < block_count_of (length x) 4066) which.1 item.1.2 in
+    let below : b < block_count_of (length bytes) BLOCK_SIZE = subst (λ x. b < block_count_of (length x) BLOCK_SIZE) which.1 item.1.2 in
     subst (λ k. Contains after (section_in carousel ls g (Block k b))) which.0 (has b (subst (λ n. b < n) is below))
 
 -- DII 1 is its one DII

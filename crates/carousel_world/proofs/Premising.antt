@@ -7,6 +7,7 @@ use Rattle.std.proofs.lemmas.List.{get_or_append_left, get_or-append-add, get_or
 use Rattle.std.proofs.lemmas.List.Elements.{All-cons, All-head, All-map, All-nil, All-tail}
 use Rattle.std.specs.Option.{unwrap_or}
 use Rattle.std.proofs.lemmas.Option.{same_Some}
+use Rattle.carousel_profile.specs.declared.TheConstants.{BLOCK_SIZE}
 use Rattle.path_tree.specs.Paths.{Bytes}
 use Rattle.biop_object.specs.Names.{Layout}
 use Rattle.ddb_block.specs.Blocks as ddb
@@ -54,7 +55,7 @@ said carousel ls g (Dii j) item = record { number = j; there = item.1; some = it
 said carousel ls g (Block m b) item = record {
   bytes = item.1.0;
   listed = item.1.1;
-  part = ap (λ o. ddb.block_of (unwrap_or o []) 4066 b) item.1.1;
+  part = ap (λ o. ddb.block_of (unwrap_or o []) BLOCK_SIZE b) item.1.1;
   versioned = refl;
 }
 

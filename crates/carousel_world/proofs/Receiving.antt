@@ -6,6 +6,7 @@ use Rattle.std.proofs.lemmas.List.Elements.{All-cons, All-nil, Contains-append_r
 use Rattle.std.proofs.lemmas.Option.{same_Some}
 use Rattle.std.proofs.lemmas.List.{map-append}
 use Rattle.std.proofs.lemmas.List.Sums.{fold-append}
+use Rattle.carousel_profile.specs.declared.TheConstants.{BLOCK_SIZE}
 use Rattle.path_tree.specs.Paths.{Bytes, PathNames}
 use Rattle.path_tree.specs.Trees.{node_at}
 use Rattle.ddb_block.specs.Blocks as ddb
@@ -17,13 +18,13 @@ use Rattle.generation.specs.Lawful.{layout_at, tree_at, dii_in, section_in, Lawf
 use Rattle.generation.specs.Layouts.{gateway_location}
 use Rattle.generation.specs.Groups.{group_of}
 use Rattle.module_cache.specs.Joining.{outline, lists}
-use Rattle.module_cache.specs.Turns.{admitted, newest, heard_by, continued, with_joined}
-use Rattle.path_resolver.specs.Resolving.{Root, HeldModule, answer_of}
+use Rattle.module_cache.specs.Turns.{admitted, newest, heard_by, continued, with_joined, Turn}
+use Rattle.path_resolver.specs.Resolving.{Target, HeldModule, answer_of}
 use Rattle.path_resolver.specs.declared.answer.Answer.TheVariants as answers
 use Rattle.tuner_core.specs.Heard.{Heard, Skipped, NoControl, NoBlock, ADsi, ADii, ABlock, as_heard}
 use Rattle.tuner_core.specs.LookBack.{root_in, gateway_of}
-use Rattle.tuner_core.specs.Spans.{Span, identification}
-use Rattle.tuner_core.specs.Turns.{Turn, turn_after, turns_of, label_of, table_in, held_in, held_after, answer_after}
+use Rattle.module_cache.specs.Spans.{Span}
+use Rattle.tuner_core.specs.Turns.{identification, turn_after, turns_of, table_in, held_after, answer_after, label_in, turnings}
 use Rattle.tuner_core.proofs.CallerLemmas.{by_admission, distinct_from}
 use Rattle.carousel_world.specs.Headline.{is_dsi, is_dii, IsAnswer, block_in, IsNodeAnswer, block_by, is_whole, is_awaited, waiting_in}
 use Rattle.carousel_world.specs.Broadcasts.{Broadcast}
@@ -39,10 +40,10 @@ use Rattle.carousel_world.proofs.Ascribing.{OfGeneration, AreAscribed, with_gene
 use Rattle.carousel_world.proofs.Completing.{UpTo, at_place, ends_in, EndsIn, whole_there}
 use Rattle.carousel_world.proofs.Rounds.{any_heard, contains_map}
 use Rattle.carousel_world.proofs.Wholeness.{first_is, whole_is}
-use Rattle.carousel_world.proofs.Tables.{turn_right, table_right, there_listed, found_right, block_right}
+use Rattle.carousel_world.proofs.Tables.{held_in, turn_right, table_right, there_listed, found_right, block_right}
 
-abbrev pub root_of_carousel : ℕ → Root
-root_of_carousel carousel = record { location = gateway_location carousel; delivery = Some 0x80000002 }
+abbrev pub root_of_carousel : ℕ → Target
+root_of_carousel carousel = (gateway_location carousel, Some 0x80000002)
 
 pub which : (o : Option Bytes) (x block : Bytes) → MaybeIs o x → o ≡ Some block → block ≡ x
 which o x block (inl e) f = same_Some block x (sym f ∙ e)
@@ -106,12 +107,12 @@ no_turn (Skipped c ∷ hs) e = no_turn hs e
 no_turn (NoControl c ∷ hs) e = no_turn hs e
 no_turn (NoBlock c ∷ hs) e = no_turn hs e
 
-pub record IsSome (ts : List Turn) : Type 0 where
-  pub head : Turn
-  pub tail : List Turn
+pub record IsSome (ts : List (Turn Heard)) : Type 0 where
+  pub head : Turn Heard
+  pub tail : List (Turn Heard)
   pub are : ts ≡ head ∷ tail
 
-one_more : (t : Turn) (ts : List Turn) (h : Heard) → IsSome (turn_after (t ∷ ts) h)
+one_more : (t : Turn Heard) (ts : List (Turn Heard)) (h : Heard) → IsSome (turn_after (t ∷ ts) h)
 one_more t ts (ADii d) =
     by_admission IsSome (t ∷ ts) d (λ e. record { head = _; tail = _; are = refl }) (λ e f. record { head = _; tail = _; are = refl }) (λ e f. record { head = _; tail = _; are = refl })
 one_more t ts (ABlock b) = record { head = _; tail = _; are = refl }
@@ -120,7 +121,7 @@ one_more t ts (Skipped c) = record { head = _; tail = _; are = refl }
 one_more t ts (NoControl c) = record { head = _; tail = _; are = refl }
 one_more t ts (NoBlock c) = record { head = _; tail = _; are = refl }
 
-stays_some : (hs : List Heard) (ts : List Turn) → IsSome ts → IsSome (fold turn_after ts hs)
+stays_some : (hs : List Heard) (ts : List (Turn Heard)) → IsSome ts → IsSome (fold turn_after ts hs)
 stays_some [] ts some = some
 stays_some (h ∷ hs) ts some = stays_some hs (turn_after ts h) (subst (λ us. IsSome (turn_after us h)) (sym some.are) (one_more some.head some.tail h))
 
@@ -139,7 +140,7 @@ some_turn carousel ls sent top gs ((k, NoBlock c) ∷ xs) heard e = absurd heard
 
 -- ---- all that is held
 
-no_answer : (label : Option ℕ) (held : List ℕ) (gateway : Option Root) (table : List HeldModule) (p : PathNames) → (label ≡ None) ⊎ (gateway ≡ None)
+no_answer : (label : Option ℕ) (held : List ℕ) (gateway : Option Target) (table : List HeldModule) (p : PathNames) → (label ≡ None) ⊎ (gateway ≡ None)
     → answer_of (record { label = label; held = held; gateway = gateway; table = table }) p ≡ answers.NoCarousel
 no_answer None held None table p h = refl
 no_answer None held (Some g) table p h = refl
@@ -148,14 +149,14 @@ no_answer (Some l) held (Some g) table p (inl h) = cc
 no_answer (Some l) held (Some g) table p (inr h) = cc
 
 -- a block that waits
-pub record WaitsFrom (ls : List Layout) (ts : List Turn) (g m n : ℕ) (block : Bytes) : Type 0 where
+pub record WaitsFrom (ls : List Layout) (ts : List (Turn Heard)) (g m n : ℕ) (block : Bytes) : Type 0 where
   pub from : ℕ
   pub labelled : label_before ts ≡ Some from
   pub earlier : from ≤ g
   pub near : g < from + 256
   pub is : IsBlockOf ls from m n block
 
-waits_right : (carousel : ℕ) (ls : List Layout) → EqualVersionsMeanEqualBytes ls → length ls ≤ 16384 → (g top : ℕ) → top < length ls → (gs : List ℕ) (t : Turn) (ts : List Turn) → AreOf carousel ls top (g ∷ gs) (t ∷ ts)
+waits_right : (carousel : ℕ) (ls : List Layout) → EqualVersionsMeanEqualBytes ls → length ls ≤ 16384 → (g top : ℕ) → top < length ls → (gs : List ℕ) (t : Turn Heard) (ts : List (Turn Heard)) → AreOf carousel ls top (g ∷ gs) (t ∷ ts)
     → (m n : ℕ) (block : Bytes) → waiting_in (t ∷ ts) m n ≡ Some block → WaitsFrom ls (t ∷ ts) g m n block
 waits_right carousel ls law few g top lt gs t [] of m n block e = cc
 waits_right carousel ls law few g top lt [] t (u ∷ us) of m n block e = absurd of.1
@@ -173,24 +174,24 @@ waits_right carousel ls law few g top lt (h ∷ hs) t (u ∷ us) of m n block e 
         let x = there_listed carousel ls h g u.turning.kept us (is_awaited t m) (admitted u) right m n block there in (
           x.0,
           x.1,
-          which (block_by us m n (find (is_awaited t m) (admitted u))) (ddb.block_of x.0 4066 n) block
+          which (block_by us m n (find (is_awaited t m) (admitted u))) (ddb.block_of x.0 BLOCK_SIZE n) block
               (found_right carousel ls law h g (omega (arith, of.0.generation, lt)) u.turning.kept us (is_awaited t m) (admitted u) right m n x.0 x.1) there,
         );
   }
 
 -- something that holds of each DII that is heard holds of each that is held
-abbrev pub HoldsEach : (DiiFields → Type 0) → List Turn → Type 0
+abbrev pub HoldsEach : (DiiFields → Type 0) → List (Turn Heard) → Type 0
 HoldsEach P ts = Each (λ s. P s.dii) (newest ts)
 
-goes_on : (P : DiiFields → Type 0) (ts : List Turn) (h : Heard) → HoldsEach P ts → HoldsEach P (continued ts h)
+goes_on : (P : DiiFields → Type 0) (ts : List (Turn Heard)) (h : Heard) → HoldsEach P ts → HoldsEach P (continued ts h)
 goes_on P [] h each = tt
 goes_on P (t ∷ ts) h each = each_like (λ s. P s.dii) (λ s. P s.dii) (heard_by h) (λ s p. p) (admitted t) each
 
-joined_too : (P : DiiFields → Type 0) (ts : List Turn) (d : DiiFields) → HoldsEach P ts → P d → HoldsEach P (with_joined ts d)
+joined_too : (P : DiiFields → Type 0) (ts : List (Turn Heard)) (d : DiiFields) → HoldsEach P ts → P d → HoldsEach P (with_joined ts d)
 joined_too P [] d each p = (p, tt)
 joined_too P (t ∷ ts) d each p = (each.0, each_more (λ s. P s.dii) (record { dii = d; kept = t.turning.kept; since = [] }) t.joined each.1 p)
 
-each_step : (P : DiiFields → Type 0) (ts : List Turn) (h : Heard) → HoldsEach P ts → ((d : DiiFields) → h ≡ ADii d → P d) → HoldsEach P (turn_after ts h)
+each_step : (P : DiiFields → Type 0) (ts : List (Turn Heard)) (h : Heard) → HoldsEach P ts → ((d : DiiFields) → h ≡ ADii d → P d) → HoldsEach P (turn_after ts h)
 each_step P ts (ADii d) each has =
     by_admission (HoldsEach P) ts d (λ e. (has d refl, tt)) (λ e f. joined_too P (continued ts (ADii d)) d (goes_on P ts (ADii d) each) (has d refl)) (λ e f. goes_on P ts (ADii d) each)
 each_step P ts (ABlock b) each has = goes_on P ts (ABlock b) each
@@ -199,47 +200,47 @@ each_step P ts (Skipped c) each has = goes_on P ts (Skipped c) each
 each_step P ts (NoControl c) each has = goes_on P ts (NoControl c) each
 each_step P ts (NoBlock c) each has = goes_on P ts (NoBlock c) each
 
-each_held : (P : DiiFields → Type 0) (hs : List Heard) (ts : List Turn) → HoldsEach P ts → ((d : DiiFields) → Contains hs (ADii d) → P d) → HoldsEach P (fold turn_after ts hs)
+each_held : (P : DiiFields → Type 0) (hs : List Heard) (ts : List (Turn Heard)) → HoldsEach P ts → ((d : DiiFields) → Contains hs (ADii d) → P d) → HoldsEach P (fold turn_after ts hs)
 each_held P [] ts each has = each
 each_held P (h ∷ hs) ts each has =
     each_held P hs (turn_after ts h) (each_step P ts h each (λ d e. has d (0, omega arith, e))) (λ d c. has d (next_contains h (ADii d) hs c))
 
 -- each held DII is one of the generation's and was heard
-pub record IsHeld (carousel : ℕ) (ls : List Layout) (g : ℕ) (hs : List Heard) (s : Span) : Type 0 where
+pub record IsHeld (carousel : ℕ) (ls : List Layout) (g : ℕ) (hs : List Heard) (s : Span Heard) : Type 0 where
   pub dii : IsDiiOf carousel ls g s.dii
   pub heard : Contains hs (ADii s.dii)
 
-both_held : (carousel : ℕ) (ls : List Layout) (g top : ℕ) (kept : Bool) (hs : List Heard) (ss : List Span) → Each (IsAdmitted carousel ls g top kept) ss → Each (λ s. Contains hs (ADii s.dii)) ss
+both_held : (carousel : ℕ) (ls : List Layout) (g top : ℕ) (kept : Bool) (hs : List Heard) (ss : List (Span Heard)) → Each (IsAdmitted carousel ls g top kept) ss → Each (λ s. Contains hs (ADii s.dii)) ss
     → All (IsHeld carousel ls g hs) ss
 both_held carousel ls g top kept hs [] of heard = All-nil (IsHeld carousel ls g hs)
 both_held carousel ls g top kept hs (s ∷ ss) of heard =
     All-cons (IsHeld carousel ls g hs) s ss (record { dii = of.0.dii; heard = heard.0 }) (both_held carousel ls g top kept hs ss of.1 heard.1)
 
 -- of each module that the generation has
-abbrev IsEntry : List Heard → List Turn → ℕ → Bytes → Type 0
+abbrev IsEntry : List Heard → List (Turn Heard) → ℕ → Bytes → Type 0
 IsEntry hs ts m bytes = IsListedIn (held_in hs ts) m bytes ⊎ IsUnlistedIn (held_in hs ts) m
 
 pub record HoldsGeneration (carousel : ℕ) (ls : List Layout) (P : ℕ → Type 0) (hs : List Heard) : Type 0 where
   pub generation : ℕ
   pub sent : P generation
   pub published : generation < length ls
-  pub labelled : label_of (turns_of hs) ≡ Some generation
+  pub labelled : label_in (turnings (turns_of hs)) ≡ Some generation
   pub diis : All (IsHeld carousel ls generation hs) (newest (turns_of hs))
   pub blocks : (m n : ℕ) (block : Bytes) → block_in (turns_of hs) m n ≡ Some block → IsBlockOf ls generation m n block
   pub waiting : (m n : ℕ) (block : Bytes) → waiting_in (turns_of hs) m n ≡ Some block → WaitsFrom ls (turns_of hs) generation m n block
   pub holds : list_any is_dsi hs ≡ true → HoldsOf carousel (layout_at ls generation) (held_after hs)
 
-gens_cons : (carousel : ℕ) (ls : List Layout) (top : ℕ) (gs : List ℕ) (t : Turn) (ts : List Turn) → AreOf carousel ls top gs (t ∷ ts) → (g : ℕ) × ((rest : List ℕ) × (gs ≡ g ∷ rest))
+gens_cons : (carousel : ℕ) (ls : List Layout) (top : ℕ) (gs : List ℕ) (t : Turn Heard) (ts : List (Turn Heard)) → AreOf carousel ls top gs (t ∷ ts) → (g : ℕ) × ((rest : List ℕ) × (gs ≡ g ∷ rest))
 gens_cons carousel ls top [] t ts of = absurd of
 gens_cons carousel ls top (g ∷ gs) t ts of = (g, (gs, refl))
 
 -- where the newest turn is of generation g
 pub holds_from : (carousel : ℕ) (ls : List Layout) → EqualVersionsMeanEqualBytes ls → length ls ≤ 16384 → (hs : List Heard) (xs : List (ℕ × Heard)) → map (λ x. x.1) xs ≡ hs → AreHeardOf carousel ls 0 [] xs
-    → list_any is_dsi hs ≡ true → (head : Turn) (tail : List Turn) → turns_of hs ≡ head ∷ tail → (top : ℕ) → top < length ls → (g : ℕ) (gs : List ℕ) → AreOf carousel ls top (g ∷ gs) (head ∷ tail)
+    → list_any is_dsi hs ≡ true → (head : Turn Heard) (tail : List (Turn Heard)) → turns_of hs ≡ head ∷ tail → (top : ℕ) → top < length ls → (g : ℕ) (gs : List ℕ) → AreOf carousel ls top (g ∷ gs) (head ∷ tail)
     → HoldsOf carousel (layout_at ls g) (held_after hs)
 holds_from carousel ls law few hs xs is heard dsi head tail these top tlt g gs of = record {
   number = g;
-  label = ap label_of these ∙ label_right carousel ls few top tlt gs g head tail of;
+  label = ap (λ ts. label_in (turnings ts)) these ∙ label_right carousel ls few top tlt gs g head tail of;
   delivery = 0x80000002;
   gateway = ap gateway_of (sym is) ∙ the_gateway carousel ls 0 [] xs heard ∙ ap (λ t. cond t (Some (root_of_carousel carousel)) None) (ap (list_any is_dsi) is ∙ dsi);
   delivered = refl;
@@ -259,7 +260,7 @@ holds_one carousel ls law few first sent hs xs is heard P diis dii =
       generation = g.0;
       sent = (subst (AllOf P) g.1.1 (gens_are P [] xs tt diis)).0;
       published = omega (arith, of.0.generation, has.published);
-      labelled = ap label_of these ∙ label_right carousel ls few has.top has.published g.1.0 g.0 some.head some.tail of;
+      labelled = ap (λ ts. label_in (turnings ts)) these ∙ label_right carousel ls few has.top has.published g.1.0 g.0 some.head some.tail of;
       diis =
           let heard : HoldsEach (λ d. Contains hs (ADii d)) (turns_of hs) = each_held (λ d. Contains hs (ADii d)) hs [] tt (λ d c. c) in
           subst (λ ts. All (IsHeld carousel ls g.0 hs) (newest ts)) (sym these)
@@ -270,7 +271,7 @@ holds_one carousel ls law few first sent hs xs is heard P diis dii =
           let x = there_listed carousel ls g.0 has.top some.head.turning.kept some.tail (λ s. lists (outline s.dii) m) (admitted some.head) right m n block here in (
             x.0,
             x.1,
-            which (block_in (some.head ∷ some.tail) m n) (ddb.block_of x.0 4066 n) block (block_right carousel ls law g.0 has.top g.1.0 some.head some.tail has.published of m n x.0 x.1) here,
+            which (block_in (some.head ∷ some.tail) m n) (ddb.block_of x.0 BLOCK_SIZE n) block (block_right carousel ls law g.0 has.top g.1.0 some.head some.tail has.published of m n x.0 x.1) here,
           );
       waiting = λ m n block there.
           subst (λ ts. WaitsFrom ls ts g.0 m n block) (sym these)
@@ -281,10 +282,10 @@ holds_one carousel ls law few first sent hs xs is heard P diis dii =
 pub holds_none : (carousel : ℕ) (ls : List Layout) (hs : List Heard) (xs : List (ℕ × Heard)) → map (λ x. x.1) xs ≡ hs → AreHeardOf carousel ls 0 [] xs
     → (list_any is_dsi hs && list_any is_dii hs) ≡ false → (p : PathNames) → answer_of (held_after hs) p ≡ answers.NoCarousel
 holds_none carousel ls hs xs is heard none p =
-    no_answer (label_of (turns_of hs)) (map (λ s. identification s.dii) (newest (turns_of hs))) (gateway_of hs) (table_in (turns_of hs)) p (either (and_cases (list_any is_dsi hs) (list_any is_dii hs) none)) where
-      either : (list_any is_dsi hs ≡ false) ⊎ (list_any is_dii hs ≡ false) → (label_of (turns_of hs) ≡ None) ⊎ (gateway_of hs ≡ None)
+    no_answer (label_in (turnings (turns_of hs))) (map (λ s. identification s.dii) (newest (turns_of hs))) (gateway_of hs) (table_in (turns_of hs)) p (either (and_cases (list_any is_dsi hs) (list_any is_dii hs) none)) where
+      either : (list_any is_dsi hs ≡ false) ⊎ (list_any is_dii hs ≡ false) → (label_in (turnings (turns_of hs)) ≡ None) ⊎ (gateway_of hs ≡ None)
       either (inl e) = inr (ap gateway_of (sym is) ∙ the_gateway carousel ls 0 [] xs heard ∙ ap (λ t. cond t (Some (root_of_carousel carousel)) None) (ap (list_any is_dsi) is ∙ e))
-      either (inr e) = inl (ap label_of (no_turn hs e))
+      either (inr e) = inl (ap (λ ts. label_in (turnings ts)) (no_turn hs e))
 
 -- ---- after a whole cycle
 
@@ -396,7 +397,7 @@ each_whole b cs r g whole m bytes listed =
     (subst (Contains (map as_heard round.after)) (r.speaks g (Block m n) item)
     (contains_map as_heard round.after (section_in b.carousel ls g (Block m n)) (round.blocks m n refl item))))
 
-not_empty : (carousel : ℕ) (ls : List Layout) (top g : ℕ) (gs : List ℕ) (ts : List Turn) → AreOf carousel ls top (g ∷ gs) ts → IsSome ts
+not_empty : (carousel : ℕ) (ls : List Layout) (top g : ℕ) (gs : List ℕ) (ts : List (Turn Heard)) → AreOf carousel ls top (g ∷ gs) ts → IsSome ts
 not_empty carousel ls top g gs [] of = absurd of
 not_empty carousel ls top g gs (t ∷ ts) of = record { head = t; tail = ts; are = refl }
 

@@ -8,10 +8,12 @@ use Rattle.path_tree.specs.Paths.{Bytes}
 use Rattle.biop_object.specs.Names.{Layout}
 use Rattle.generation.specs.Lawful.{layout_at, version_in, dii_in}
 use Rattle.generation.specs.Groups.{group_of, is_in_group, group_in}
-use Rattle.module_cache.specs.Joining.{Outline, outline, lists, is_there, size_of}
+use Rattle.dsi_dii.specs.declared.ModuleLine.{ModuleLine}
+use Rattle.module_cache.specs.Joining.{Outline, outline, lists, is_there}
 use Rattle.module_cache.proofs.CallerLemmas.{any_map}
-use Rattle.tuner_core.specs.Spans.{Span, identification}
-use Rattle.tuner_core.specs.Turns.{outlines, is_room}
+use Rattle.module_cache.specs.Spans.{Span}
+use Rattle.tuner_core.specs.Heard.{Heard}
+use Rattle.tuner_core.specs.Turns.{identification, outlines, is_room}
 use Rattle.tuner_core.proofs.CallerLemmas.{AreDistinct, numbers}
 use Rattle.carousel_world.specs.Receptions.{IsDiiOf}
 use Rattle.carousel_world.proofs.Modules.{line_of, same_total, IsSent, number_is}
@@ -126,28 +128,28 @@ unfolding all_weight sizes
 all_sizes [] = refl
 all_sizes (m ∷ ms) = ap (λ n. length m.1 + n) (all_sizes ms) ∙ sym (sum_by-cons (λ (m : ℕ × Bytes). length m.1) m ms)
 
-dii_size : (carousel : ℕ) (ls : List Layout) (g j : ℕ) → size_of (dii_in carousel ls g j).modules ≡ weight (sizes (layout_at ls g)) j
+dii_size : (carousel : ℕ) (ls : List Layout) (g j : ℕ) → sum_by (λ (l : ModuleLine). l.size) (dii_in carousel ls g j).modules ≡ weight (sizes (layout_at ls g)) j
 dii_size carousel ls g j = same_total (version_in ls g) (group_in (layout_at ls g) j) ∙ group_size j (layout_at ls g)
 
 -- ---- the DIIs that are held
 
 -- each is a DII of the generation
-abbrev pub AreOfOne : ℕ → List Layout → ℕ → List Span → Type 0
+abbrev pub AreOfOne : ℕ → List Layout → ℕ → List (Span Heard) → Type 0
 AreOfOne carousel ls g ss = Each (λ s. IsDiiOf carousel ls g s.dii) ss
 
-span_size : (carousel : ℕ) (ls : List Layout) (g : ℕ) (s : Span) → IsDiiOf carousel ls g s.dii → size_of (outline s.dii).modules ≡ weight (sizes (layout_at ls g)) (identification s.dii)
+span_size : (carousel : ℕ) (ls : List Layout) (g : ℕ) (s : Span Heard) → IsDiiOf carousel ls g s.dii → sum_by (λ (l : ModuleLine). l.size) (outline s.dii).modules ≡ weight (sizes (layout_at ls g)) (identification s.dii)
 span_size carousel ls g s of =
-    ap (λ d. size_of d.modules) of.is ∙ dii_size carousel ls g of.number ∙ ap (weight (sizes (layout_at ls g))) (sym (number_of carousel ls g s.dii of))
+    ap (λ d. sum_by (λ (l : ModuleLine). l.size) d.modules) of.is ∙ dii_size carousel ls g of.number ∙ ap (weight (sizes (layout_at ls g))) (sym (number_of carousel ls g s.dii of))
 
-held_size : (carousel : ℕ) (ls : List Layout) (g : ℕ) (ss : List Span) → AreOfOne carousel ls g ss → sum_by (λ o. size_of o.modules) (outlines ss) ≡ total (weight (sizes (layout_at ls g))) (numbers ss)
+held_size : (carousel : ℕ) (ls : List Layout) (g : ℕ) (ss : List (Span Heard)) → AreOfOne carousel ls g ss → sum_by (λ o. sum_by (λ (l : ModuleLine). l.size) o.modules) (outlines ss) ≡ total (weight (sizes (layout_at ls g))) (numbers ss)
 unfolding total
 held_size carousel ls g [] of = refl
 held_size carousel ls g (s ∷ ss) of =
-    sum_by-cons (λ (o : Outline). size_of o.modules) (outline s.dii) (outlines ss)
-    ∙ ap (λ n. n + sum_by (λ (o : Outline). size_of o.modules) (outlines ss)) (span_size carousel ls g s of.0)
+    sum_by-cons (λ (o : Outline). sum_by (λ (l : ModuleLine). l.size) o.modules) (outline s.dii) (outlines ss)
+    ∙ ap (λ n. n + sum_by (λ (o : Outline). sum_by (λ (l : ModuleLine). l.size) o.modules) (outlines ss)) (span_size carousel ls g s of.0)
     ∙ ap (λ n. weight (sizes (layout_at ls g)) (identification s.dii) + n) (held_size carousel ls g ss of.1)
 
-held_few : (carousel : ℕ) (ls : List Layout) (g : ℕ) (ss : List Span) → AreOfOne carousel ls g ss → AreFew (numbers ss)
+held_few : (carousel : ℕ) (ls : List Layout) (g : ℕ) (ss : List (Span Heard)) → AreOfOne carousel ls g ss → AreFew (numbers ss)
 held_few carousel ls g [] of = tt
 held_few carousel ls g (s ∷ ss) of =
     let same = number_of carousel ls g s.dii of.0 in
@@ -163,12 +165,12 @@ group_lists versions j id (m ∷ ms) e = go (eqb (group_of m.0) j) refl (group_l
     other : m.0 ≡ id → eqb (group_of m.0) j ≡ true → ⊥
     other same own = let mine : eqb (group_of id) j ≡ true = subst (λ k. eqb (group_of k) j ≡ true) same own in cc
 
-lists_apart : (carousel : ℕ) (ls : List Layout) (g : ℕ) (s : Span) → IsDiiOf carousel ls g s.dii → (id : ℕ) → eqb (group_of id) (identification s.dii) ≡ false → lists (outline s.dii) id ≡ false
+lists_apart : (carousel : ℕ) (ls : List Layout) (g : ℕ) (s : Span Heard) → IsDiiOf carousel ls g s.dii → (id : ℕ) → eqb (group_of id) (identification s.dii) ≡ false → lists (outline s.dii) id ≡ false
 lists_apart carousel ls g s of id e =
     ap (λ d. list_any (λ l. eqb l.id id) d.modules) of.is
     ∙ group_lists (version_in ls g) of.number id (layout_at ls g) (subst (λ n. eqb (group_of id) n ≡ false) (number_of carousel ls g s.dii of) e)
 
-none_lists : (carousel : ℕ) (ls : List Layout) (g j id : ℕ) → eqb (group_of id) j ≡ true → (ss : List Span) → AreOfOne carousel ls g ss → list_any (λ n. eqb n j) (numbers ss) ≡ false → list_any (λ o. lists o id) (outlines ss) ≡ false
+none_lists : (carousel : ℕ) (ls : List Layout) (g j id : ℕ) → eqb (group_of id) j ≡ true → (ss : List (Span Heard)) → AreOfOne carousel ls g ss → list_any (λ n. eqb n j) (numbers ss) ≡ false → list_any (λ o. lists o id) (outlines ss) ≡ false
 none_lists carousel ls g j id own [] of e = refl
 none_lists carousel ls g j id own (s ∷ ss) of e =
     let p = or_parts _ _ e in
@@ -188,7 +190,7 @@ unfolding total
 split n ns f most le = le
 
 -- Beside other DIIs of its generation, each of an identification of its own, there is room for a DII.
-pub room_there : (carousel : ℕ) (ls : List Layout) (g j : ℕ) → IsSent carousel ls g → 1 ≤ j → j ≤ 16 → (ss : List Span) → AreOfOne carousel ls g ss → AreDistinct (numbers ss) → list_any (λ n. eqb n j) (numbers ss) ≡ false
+pub room_there : (carousel : ℕ) (ls : List Layout) (g j : ℕ) → IsSent carousel ls g → 1 ≤ j → j ≤ 16 → (ss : List (Span Heard)) → AreOfOne carousel ls g ss → AreDistinct (numbers ss) → list_any (λ n. eqb n j) (numbers ss) ≡ false
     → is_room (outlines ss) (dii_in carousel ls g j) ≡ true
 room_there carousel ls g j sent some few ss of distinct other =
     let d = dii_in carousel ls g j in
@@ -200,14 +202,14 @@ room_there carousel ls g j sent some few ss of distinct other =
     let count : length (numbers ss) < 16 = fewer (numbers ss) (few_numbers (j ∷ numbers ss) (other, distinct) ((some, few), held_few carousel ls g ss of)) in
     let count_too : length (outlines ss) < 16 = same_count ss count in
     let weighs_all : total (weight (sizes (layout_at ls g))) (j ∷ numbers ss) ≤ all_weight (sizes (layout_at ls g)) = distinct_weigh (sizes (layout_at ls g)) (j ∷ numbers ss) (other, distinct) in
-    let fits : sum_by (λ o. size_of o.modules) (outlines ss) + size_of d.modules ≤ 268435456 =
+    let fits : sum_by (λ o. sum_by (λ (l : ModuleLine). l.size) o.modules) (outlines ss) + sum_by (λ (l : ModuleLine). l.size) d.modules ≤ 268435456 =
     fit_all _ _ _ _ _ _ (held_size carousel ls g ss of) (dii_size carousel ls g j) (all_sizes (layout_at ls g)) (split j (numbers ss) (weight (sizes (layout_at ls g))) (all_weight (sizes (layout_at ls g))) weighs_all) sent.total in
     and_from _ _ (and_from _ _ (and_from _ _ (ap not not_there) (ap not apart)) (lt-ltb _ _ count_too)) (le-leb _ _ fits)
   where
     fewer : (ns : List ℕ) → length (j ∷ ns) ≤ 16 → length ns < 16
     fewer ns le = omega (arith, le)
 
-    same_count : (ss : List Span) → length (numbers ss) < 16 → length (outlines ss) < 16
+    same_count : (ss : List (Span Heard)) → length (numbers ss) < 16 → length (outlines ss) < 16
     same_count ss lt = omega (arith, lt, length-map ss (λ s. identification s.dii), length-map ss (λ s. outline s.dii))
 
     fit_all : (a b c x y z : ℕ) → a ≡ x → b ≡ y → c ≡ z → y + x ≤ c → z ≤ 268435456 → a + b ≤ 268435456

@@ -3,6 +3,7 @@ use Rattle.std.proofs.Common.{◌≡◌, ℕ, zero, suc, ◌*◌, ◌<◌, Bool,
 use Rattle.std.proofs.lemmas.Bool.{eq-eqb, lt-ltb, and_from, or_left, or_right}
 use Rattle.std.proofs.lemmas.List.{length-take, length-map, get_or-map}
 use Rattle.std.specs.List.{Contains, list_any}
+use Rattle.carousel_profile.specs.declared.TheConstants.{BLOCK_SIZE}
 use Rattle.path_tree.specs.Paths.{Bytes}
 use Rattle.ddb_block.specs.Blocks as ddb
 use Rattle.dsi_dii.specs.Controls.{DiiFields}
@@ -27,14 +28,14 @@ contains_map f xs x has = (has.0, omega (arith, length-map xs f, has.1), get_or-
 
 -- ---- a block fits itself
 
-span_is : (bytes : Bytes) (b : ℕ) → length (ddb.block_of bytes 4066 b) ≡ ddb.block_span_of (length bytes) 4066 b
-span_is bytes b = length-take 4066 (drop (b * 4066) bytes) ∙ ap (λ n. min 4066 n) (length-drop (b * 4066) bytes)
+span_is : (bytes : Bytes) (b : ℕ) → length (ddb.block_of bytes BLOCK_SIZE b) ≡ ddb.block_span_of (length bytes) BLOCK_SIZE b
+span_is bytes b = length-take BLOCK_SIZE (drop (b * BLOCK_SIZE) bytes) ∙ ap (λ n. min BLOCK_SIZE n) (length-drop (b * BLOCK_SIZE) bytes)
 
-pub fits_itself : (carousel : ℕ) (held : DiiFields) (version : ℕ → ℕ) (m : ℕ × Bytes) (b : ℕ) → held.download ≡ carousel → held.block_size ≡ 4066 → b < ddb.block_count_of (length m.1) 4066
-    → fits held (line_of version m) b (record { download = carousel; module_id = m.0; version = version m.0; number = b; bytes = ddb.block_of m.1 4066 b }) ≡ true
+pub fits_itself : (carousel : ℕ) (held : DiiFields) (version : ℕ → ℕ) (m : ℕ × Bytes) (b : ℕ) → held.download ≡ carousel → held.block_size ≡ BLOCK_SIZE → b < ddb.block_count_of (length m.1) BLOCK_SIZE
+    → fits held (line_of version m) b (record { download = carousel; module_id = m.0; version = version m.0; number = b; bytes = ddb.block_of m.1 BLOCK_SIZE b }) ≡ true
 fits_itself carousel held version m b own size lt =
-    let count : ltb b (ddb.block_count_of (length m.1) held.block_size) ≡ true = ap (λ n. ltb b (ddb.block_count_of (length m.1) n)) size ∙ lt-ltb b (ddb.block_count_of (length m.1) 4066) lt in
-    let span : eqb (length (ddb.block_of m.1 4066 b)) (ddb.block_span_of (length m.1) held.block_size b) ≡ true =
-    eq-eqb (length (ddb.block_of m.1 4066 b)) (ddb.block_span_of (length m.1) held.block_size b) (span_is m.1 b ∙ ap (λ n. ddb.block_span_of (length m.1) n b) (sym size)) in
+    let count : ltb b (ddb.block_count_of (length m.1) held.block_size) ≡ true = ap (λ n. ltb b (ddb.block_count_of (length m.1) n)) size ∙ lt-ltb b (ddb.block_count_of (length m.1) BLOCK_SIZE) lt in
+    let span : eqb (length (ddb.block_of m.1 BLOCK_SIZE b)) (ddb.block_span_of (length m.1) held.block_size b) ≡ true =
+    eq-eqb (length (ddb.block_of m.1 BLOCK_SIZE b)) (ddb.block_span_of (length m.1) held.block_size b) (span_is m.1 b ∙ ap (λ n. ddb.block_span_of (length m.1) n b) (sym size)) in
     and_from _ _ (and_from _ _ (and_from _ _ (and_from _ _ (and_from _ _
     (eq-eqb carousel held.download (sym own)) (eq-eqb m.0 m.0 refl)) (eq-eqb (version m.0) (version m.0) refl)) (eq-eqb b b refl)) count) span

@@ -4,16 +4,17 @@ use Rattle.std.proofs.lemmas.List.{length-take, length-map}
 use Rattle.std.specs.List.{All}
 use Rattle.std.proofs.lemmas.List.Elements.{All-map, All-filter}
 use Rattle.std.specs.Option.{unwrap_or}
+use Rattle.carousel_profile.specs.declared.TheConstants.{BLOCK_SIZE}
 use Rattle.path_tree.specs.Paths.{Bytes}
 use Rattle.ior_tap.specs.Iors as iors
 use Rattle.ddb_block.specs.Blocks as ddb
 use Rattle.dsi_dii.specs.Controls.{DsiFields, DiiFields, Message, IsDsi, IsDii, LineFits, dii_spelling, dsi_spelling}
-use Rattle.dsi_dii.specs.ControlReading as controls
+use Rattle.dsi_dii.specs.Controls as controls
 use Rattle.dsi_dii.specs.declared.ModuleLine.{ModuleLine}
 use Rattle.dsi_dii.specs.Spellings.{IsSpellable, DiiSpellingsReadBack, DiiSpellingsHaveSize, DsiSpellingsReadBack, DsiSpellingsHaveSize}
 use Rattle.dsmcc_section.specs.Sections as sections
+use Rattle.biop_object.specs.declared.reading.TheConstants.{GATEWAY}
 use Rattle.biop_object.specs.Names.{Layout, module_in}
-use Rattle.biop_object.specs.Objects.{gateway_kind}
 use Rattle.cycle_planner.specs.declared.Item.{Item}
 use Rattle.cycle_planner.specs.declared.Item.TheVariants.{Dsi, Dii, Block}
 use Rattle.generation.specs.Layouts.{gateway_location, control_section, block_section}
@@ -25,7 +26,7 @@ use Rattle.carousel_world.proofs.Modules.{IsSent, listed_holds, line_of, few_blo
 -- what the crates below say of spellings
 pub record Spelled : Type 0 where
   pub section : (s : sections.Fields) → sections.Fits s → sections.read (sections.spelling s) ≡ Ok s
-  pub block : (b : ddb.Block) → ddb.Fits b → length b.bytes ≤ 4066 → ddb.read (ddb.spelling b) ≡ Ok b
+  pub block : (b : ddb.Block) → ddb.Fits b → length b.bytes ≤ BLOCK_SIZE → ddb.read (ddb.spelling b) ≡ Ok b
   pub block_size : (b : ddb.Block) → length (ddb.spelling b) ≡ length b.bytes + 18
   pub dii : DiiSpellingsReadBack
   pub dii_size : DiiSpellingsHaveSize
@@ -33,13 +34,13 @@ pub record Spelled : Type 0 where
   pub dsi_size : DsiSpellingsHaveSize
 
 abbrev pub dsi_of : ℕ → DsiFields
-dsi_of carousel = record { transaction = 0x80000000; gateway = iors.written_form gateway_kind (gateway_location carousel) }
+dsi_of carousel = record { transaction = 0x80000000; gateway = iors.written_form GATEWAY (gateway_location carousel) }
 
 abbrev pub module_of : List Layout → ℕ → ℕ → Bytes
 module_of ls g m = unwrap_or (module_in (layout_at ls g) m) []
 
 abbrev pub block_in : ℕ → List Layout → ℕ → ℕ → ℕ → ddb.Block
-block_in carousel ls g m b = record { download = carousel; module_id = m; version = version_in ls g m; number = b; bytes = ddb.block_of (module_of ls g m) 4066 b }
+block_in carousel ls g m b = record { download = carousel; module_id = m; version = version_in ls g m; number = b; bytes = ddb.block_of (module_of ls g m) BLOCK_SIZE b }
 
 abbrev pub says : ℕ → List Layout → ℕ → Item → Heard
 says carousel ls g Dsi = ADsi (dsi_of carousel)
@@ -48,10 +49,10 @@ says carousel ls g (Block m b) = ABlock (block_in carousel ls g m b)
 
 -- ---- fields that have a spelling
 
-short_length : (xs : Bytes) → length (take 4066 xs) ≤ 4066
-short_length xs = omega (arith, length-take 4066 xs)
+short_length : (xs : Bytes) → length (take BLOCK_SIZE xs) ≤ BLOCK_SIZE
+short_length xs = omega (arith, length-take BLOCK_SIZE xs)
 
-pub dsi_written : (carousel : ℕ) → iors.IsWritten (iors.written_form gateway_kind (gateway_location carousel)) (gateway_location carousel)
+pub dsi_written : (carousel : ℕ) → iors.IsWritten (iors.written_form GATEWAY (gateway_location carousel)) (gateway_location carousel)
 dsi_written carousel = record { form = refl; four = refl; key = refl; listed = (lit≤ tt, lit≤ tt) }
 
 pub number_below : (carousel : ℕ) (ls : List Layout) (g m b : ℕ) → IsSent carousel ls g → IsItem ls g (Block m b) → (m < 65536) × (b < 65536)
@@ -70,26 +71,26 @@ control_fits extension payload lt le = record {
   version = lit< tt;
   number = lit< tt;
   last = lit< tt;
-  payload = le;
+  body = omega (arith, le);
 }
 
-pub dsi_fits : (carousel : ℕ) → Spelled → sections.Fits (control_section 0 (dsi_spelling 0x80000000 gateway_kind (gateway_location carousel)))
+pub dsi_fits : (carousel : ℕ) → Spelled → sections.Fits (control_section 0 (dsi_spelling 0x80000000 GATEWAY (gateway_location carousel)))
 dsi_fits carousel spelled =
-    control_fits 0 (dsi_spelling 0x80000000 gateway_kind (gateway_location carousel)) (lit< tt)
-    (omega (arith, spelled.dsi_size 0x80000000 gateway_kind (gateway_location carousel) (dsi_written carousel)))
+    control_fits 0 (dsi_spelling 0x80000000 GATEWAY (gateway_location carousel)) (lit< tt)
+    (omega (arith, spelled.dsi_size 0x80000000 GATEWAY (gateway_location carousel) (dsi_written carousel)))
 
 pub dii_fits : (extension : ℕ) (d : DiiFields) → Spelled → extension < 65536 → length d.modules ≤ 139 → sections.Fits (control_section extension (dii_spelling d))
 dii_fits extension d spelled lt few = control_fits extension (dii_spelling d) lt (omega (arith, spelled.dii_size d))
 
 block_fits : (carousel m version b : ℕ) (bytes : Bytes) → Spelled → m < 65536 → sections.Fits (block_section carousel m version b bytes)
 block_fits carousel m version b bytes spelled lt =
-    let block : ddb.Block = record { download = carousel; module_id = m; version = version; number = b; bytes = ddb.block_of bytes 4066 b } in
+    let block : ddb.Block = record { download = carousel; module_id = m; version = version; number = b; bytes = ddb.block_of bytes BLOCK_SIZE b } in
     record {
       extension = lt;
       version = omega arith;
       number = omega arith;
       last = omega arith;
-      payload = omega (arith, spelled.block_size block, short_length (drop (b * 4066) bytes));
+      body = omega (arith, spelled.block_size block, short_length (drop (b * BLOCK_SIZE) bytes));
     }
 
 message_fits : (carousel m version b : ℕ) (bytes : Bytes) → carousel < 4294967296 → m < 65536 → version < 256 → b < 65536
@@ -107,11 +108,11 @@ hears_control extension payload message spelled f e = hears (control_section ext
 
 pub hears_block : (carousel m version b : ℕ) (bytes : Bytes) → Spelled → carousel < 4294967296 → m < 65536 → version < 256 → b < 65536
     → as_heard (sections.spelling (block_section carousel m version b bytes))
-    ≡ ABlock (record { download = carousel; module_id = m; version = version; number = b; bytes = ddb.block_of bytes 4066 b })
+    ≡ ABlock (record { download = carousel; module_id = m; version = version; number = b; bytes = ddb.block_of bytes BLOCK_SIZE b })
 hears_block carousel m version b bytes spelled h i j k =
     hears (block_section carousel m version b bytes) spelled (block_fits carousel m version b bytes spelled i)
-    ∙ ap heard_block (spelled.block (record { download = carousel; module_id = m; version = version; number = b; bytes = ddb.block_of bytes 4066 b })
-    (message_fits carousel m version b (ddb.block_of bytes 4066 b) h i j k) (short_length (drop (b * 4066) bytes)))
+    ∙ ap heard_block (spelled.block (record { download = carousel; module_id = m; version = version; number = b; bytes = ddb.block_of bytes BLOCK_SIZE b })
+    (message_fits carousel m version b (ddb.block_of bytes BLOCK_SIZE b) h i j k) (short_length (drop (b * BLOCK_SIZE) bytes)))
 
 pub plain_lines : (version : ℕ → ℕ) (layout : Layout) → All (λ l. l.compressed ≡ false) (map (line_of version) layout)
 plain_lines version layout = All-map (λ (l : ModuleLine). l.compressed ≡ false) (line_of version) layout (λ k d lt. refl)
@@ -150,8 +151,8 @@ spellable carousel ls g j sent some few = record {
 pub hears_item : (carousel : ℕ) (ls : List Layout) (g : ℕ) → Spelled → IsSent carousel ls g → (item : Item) → IsItem ls g item
     → as_heard (section_in carousel ls g item) ≡ says carousel ls g item
 hears_item carousel ls g spelled sent Dsi item =
-    hears_control 0 (dsi_spelling 0x80000000 gateway_kind (gateway_location carousel)) (IsDsi (dsi_of carousel)) spelled (dsi_fits carousel spelled)
-    (spelled.dsi 0x80000000 gateway_kind (gateway_location carousel) (lit< tt) (dsi_written carousel) (record { carousel = sent.carousel_id; module_id = lit< tt }))
+    hears_control 0 (dsi_spelling 0x80000000 GATEWAY (gateway_location carousel)) (IsDsi (dsi_of carousel)) spelled (dsi_fits carousel spelled)
+    (spelled.dsi 0x80000000 GATEWAY (gateway_location carousel) (lit< tt) (dsi_written carousel) (record { carousel = sent.carousel_id; module_id = lit< tt }))
 hears_item carousel ls g spelled sent (Dii j) item =
     hears_control (dii_transaction g j % 65536) (dii_spelling (dii_in carousel ls g j)) (IsDii (dii_in carousel ls g j)) spelled
     (dii_fits (dii_transaction g j % 65536) (dii_in carousel ls g j) spelled (extension_small (dii_transaction g j)) (listed_few carousel ls g j sent item.2))
@@ -164,7 +165,7 @@ hears_item carousel ls g spelled sent (Block m b) item =
 
 pub item_framed : (carousel : ℕ) (ls : List Layout) (g : ℕ) → ((s : sections.Fields) → sections.Fits s → sections.IsFramed (sections.spelling s)) → Spelled → IsSent carousel ls g
     → (item : Item) → IsItem ls g item → sections.IsFramed (section_in carousel ls g item)
-item_framed carousel ls g framed spelled sent Dsi item = framed (control_section 0 (dsi_spelling 0x80000000 gateway_kind (gateway_location carousel))) (dsi_fits carousel spelled)
+item_framed carousel ls g framed spelled sent Dsi item = framed (control_section 0 (dsi_spelling 0x80000000 GATEWAY (gateway_location carousel))) (dsi_fits carousel spelled)
 item_framed carousel ls g framed spelled sent (Dii j) item =
     framed (control_section (dii_transaction g j % 65536) (dii_spelling (dii_in carousel ls g j)))
     (dii_fits (dii_transaction g j % 65536) (dii_in carousel ls g j) spelled (extension_small (dii_transaction g j)) (listed_few carousel ls g j sent item.2))

@@ -3,6 +3,7 @@ use Rattle.std.proofs.Common.{◌≡◌, ℕ, ◌<◌, ◌⊎◌, inl, inr, Bool
 use Rattle.std.specs.List.{find, list_any, flat_map, filter}
 use Rattle.std.specs.Option.{option_map}
 use Rattle.std.proofs.lemmas.Bool.{cond-true, cond-false, eqb-true, eq-eqb}
+use Rattle.carousel_profile.specs.declared.TheConstants.{BLOCK_SIZE}
 use Rattle.path_tree.specs.Paths.{Bytes}
 use Rattle.ddb_block.specs.Blocks as ddb
 use Rattle.dsi_dii.specs.declared.ModuleLine.{ModuleLine}
@@ -10,18 +11,29 @@ use Rattle.biop_object.specs.Names.{Layout, module_in}
 use Rattle.generation.specs.Lawful.{layout_at, version_in, EqualVersionsMeanEqualBytes, dii_in}
 use Rattle.generation.specs.Groups.{group_of, is_in_group, group_in}
 use Rattle.module_cache.specs.Joining.{outline, lists}
-use Rattle.module_cache.specs.Turns.{admitted, before}
+use Rattle.module_cache.specs.Turns.{admitted, newest, before, Turn}
 use Rattle.module_cache.proofs.CallerLemmas.{find_map}
-use Rattle.path_resolver.specs.Resolving.{HeldModule}
+use Rattle.path_resolver.specs.Resolving.{Held, HeldModule}
 use Rattle.tuner_core.specs.Heard.{Heard}
-use Rattle.tuner_core.specs.LookBack.{bytes_if_fits, module_among}
-use Rattle.tuner_core.specs.Spans.{Span, stretch, identification}
-use Rattle.tuner_core.specs.Turns.{Turn, held_module, modules_in, held_in}
+use Rattle.tuner_core.specs.LookBack.{bytes_if_fits, gateway_of}
+use Rattle.tuner_core.specs.Said as said
+use Rattle.module_cache.specs.Turns as back
+use Rattle.module_cache.specs.Spans.{Span}
+use Rattle.tuner_core.specs.Turns.{stretch, identification, held_module, label_in, turnings, table_in}
 use Rattle.carousel_world.specs.Headline.{block_of_line, line_in, block_by, block_in}
 use Rattle.carousel_world.proofs.Lists.{MaybeIs, first_maybe}
 use Rattle.carousel_world.proofs.Modules.{line_of, of_group, in_layout, in_its_group}
 use Rattle.carousel_world.proofs.Generations.{line_found, Each, IsAdmitted, AreChain, AreOf, newest_are, module_right, stretch_right, number_of}
 use Rattle.carousel_world.proofs.Holding.{IsListedIn, IsUnlistedIn}
+
+-- ---- what is held by these turns, the newest first
+
+-- the modules of one DII of a turn that stands before these
+abbrev pub modules_in : List (Turn Heard) → Span Heard → List HeldModule
+modules_in ts s = map (held_module s (before s ts)) s.dii.modules
+
+abbrev pub held_in : List Heard → List (Turn Heard) → Held
+held_in hs ts = record { label = label_in (turnings ts); held = map (λ s. identification s.dii) (newest ts); gateway = gateway_of hs; table = table_in ts }
 
 -- ---- lists
 
@@ -79,10 +91,10 @@ any_found m (l ∷ ls) = go (eqb l.id m) (any_found m ls) where
 -- ---- a DII that was admitted
 
 -- its number, and the DII itself
-pub admitted_is : (carousel : ℕ) (ls : List Layout) (g top : ℕ) (kept : Bool) (s : Span) → IsAdmitted carousel ls g top kept s → s.dii ≡ dii_in carousel ls g (identification s.dii)
+pub admitted_is : (carousel : ℕ) (ls : List Layout) (g top : ℕ) (kept : Bool) (s : Span Heard) → IsAdmitted carousel ls g top kept s → s.dii ≡ dii_in carousel ls g (identification s.dii)
 admitted_is carousel ls g top kept s a = a.dii.is ∙ ap (dii_in carousel ls g) (sym (number_of carousel ls g s.dii a.dii))
 
-pub span_line : (carousel : ℕ) (ls : List Layout) (g top : ℕ) (kept : Bool) (s : Span) → IsAdmitted carousel ls g top kept s → (m : ℕ) (bytes : Bytes) → module_in (layout_at ls g) m ≡ Some bytes
+pub span_line : (carousel : ℕ) (ls : List Layout) (g top : ℕ) (kept : Bool) (s : Span Heard) → IsAdmitted carousel ls g top kept s → (m : ℕ) (bytes : Bytes) → module_in (layout_at ls g) m ≡ Some bytes
     → find (λ l. eqb l.id m) s.dii.modules ≡ line_if (eqb (group_of m) (identification s.dii)) (line_of (version_in ls g) (m, bytes))
 span_line carousel ls g top kept s a m bytes listed =
     ap (λ d. find (λ l. eqb l.id m) d.modules) (admitted_is carousel ls g top kept s a) ∙ dii_line carousel ls g (identification s.dii) m bytes listed
@@ -95,7 +107,7 @@ map_if : (f : ModuleLine → HeldModule) (b : Bool) (l : ModuleLine) → option_
 map_if f true l = refl
 map_if f false l = refl
 
-row_first : (carousel : ℕ) (ls : List Layout) (g top : ℕ) (kept : Bool) (s : Span) → IsAdmitted carousel ls g top kept s → (ts : List Turn) (m : ℕ) (bytes : Bytes) → module_in (layout_at ls g) m ≡ Some bytes
+row_first : (carousel : ℕ) (ls : List Layout) (g top : ℕ) (kept : Bool) (s : Span Heard) → IsAdmitted carousel ls g top kept s → (ts : List (Turn Heard)) (m : ℕ) (bytes : Bytes) → module_in (layout_at ls g) m ≡ Some bytes
     → find (λ h. eqb h.line.id m) (modules_in ts s) ≡ entry_if (eqb (group_of m) (identification s.dii)) (held_module s (before s ts) (line_of (version_in ls g) (m, bytes)))
 row_first carousel ls g top kept s a ts m bytes listed =
     find_map (held_module s (before s ts)) (λ h. eqb h.line.id m) s.dii.modules
@@ -103,7 +115,7 @@ row_first carousel ls g top kept s a ts m bytes listed =
     ∙ map_if (held_module s (before s ts)) (eqb (group_of m) (identification s.dii)) (line_of (version_in ls g) (m, bytes))
 
 -- the same, of a DII of this identification
-row_by_dii : (carousel : ℕ) (ls : List Layout) (g top : ℕ) (kept : Bool) (s : Span) → IsAdmitted carousel ls g top kept s → (ts : List Turn) (m : ℕ) (bytes : Bytes) → module_in (layout_at ls g) m ≡ Some bytes
+row_by_dii : (carousel : ℕ) (ls : List Layout) (g top : ℕ) (kept : Bool) (s : Span Heard) → IsAdmitted carousel ls g top kept s → (ts : List (Turn Heard)) (m : ℕ) (bytes : Bytes) → module_in (layout_at ls g) m ≡ Some bytes
     → find (λ h. eqb h.identification (group_of m) && eqb h.line.id m) (modules_in ts s) ≡ entry_if (eqb (group_of m) (identification s.dii)) (held_module s (before s ts) (line_of (version_in ls g) (m, bytes)))
 row_by_dii carousel ls g top kept s a ts m bytes listed =
     find_map (held_module s (before s ts)) (λ h. eqb h.identification (group_of m) && eqb h.line.id m) s.dii.modules
@@ -130,32 +142,32 @@ row_by_dii carousel ls g top kept s a ts m bytes listed =
 -- ---- the table
 
 -- by the DII of the module's group, where it was admitted
-pub record IsRow (rows : List HeldModule) (ss : List Span) (m : ℕ) (bytes : Bytes) : Type 0 where
+pub record IsRow (rows : List HeldModule) (ss : List (Span Heard)) (m : ℕ) (bytes : Bytes) : Type 0 where
   pub entry : HeldModule
   pub first : find (λ h. eqb h.line.id m) rows ≡ Some entry
   pub by_dii : find (λ h. eqb h.identification (group_of m) && eqb h.line.id m) rows ≡ Some entry
   pub plain : entry.line.compressed ≡ false
   pub content : MaybeIs entry.bytes bytes
 
-pub record IsNoRow (rows : List HeldModule) (ss : List Span) (m : ℕ) : Type 0 where
+pub record IsNoRow (rows : List HeldModule) (ss : List (Span Heard)) (m : ℕ) : Type 0 where
   pub none : find (λ h. eqb h.line.id m) rows ≡ None
   pub none_by_dii : find (λ h. eqb h.identification (group_of m) && eqb h.line.id m) rows ≡ None
   pub absent : list_any (λ i. eqb i (group_of m)) (map (λ s. identification s.dii) ss) ≡ false
 
 -- each admitted DII is of the generation, and what is held of its modules is right
-pub record IsRight (carousel : ℕ) (ls : List Layout) (g top : ℕ) (kept : Bool) (ts : List Turn) (s : Span) : Type 0 where
+pub record IsRight (carousel : ℕ) (ls : List Layout) (g top : ℕ) (kept : Bool) (ts : List (Turn Heard)) (s : Span Heard) : Type 0 where
   pub is : IsAdmitted carousel ls g top kept s
   pub gens : List ℕ
   pub chain_is : AreChain carousel ls (identification s.dii) top (g ∷ gens) (s ∷ before s ts)
 
-module_of_span : (carousel : ℕ) (ls : List Layout) → EqualVersionsMeanEqualBytes ls → (g top : ℕ) → top < length ls → (kept : Bool) (ts : List Turn) (s : Span) → IsRight carousel ls g top kept ts s
+module_of_span : (carousel : ℕ) (ls : List Layout) → EqualVersionsMeanEqualBytes ls → (g top : ℕ) → top < length ls → (kept : Bool) (ts : List (Turn Heard)) (s : Span Heard) → IsRight carousel ls g top kept ts s
     → (m : ℕ) (bytes : Bytes) → module_in (layout_at ls g) m ≡ Some bytes → MaybeIs (held_module s (before s ts) (line_of (version_in ls g) (m, bytes))).bytes bytes
 module_of_span carousel ls law g top lt kept ts s r m bytes listed =
-    subst (λ d. MaybeIs (module_among (stretch s (before s ts) (line_of (version_in ls g) (m, bytes))) d (line_of (version_in ls g) (m, bytes))) bytes) (sym (admitted_is carousel ls g top kept s r.is))
+    subst (λ d. MaybeIs (back.module_among said.block_in (stretch s (before s ts) (line_of (version_in ls g) (m, bytes))) d (line_of (version_in ls g) (m, bytes))) bytes) (sym (admitted_is carousel ls g top kept s r.is))
     (module_right carousel ls law (identification s.dii) g top lt s r.gens (before s ts) r.chain_is (m, bytes) listed)
 
-pub rows_right : (carousel : ℕ) (ls : List Layout) → EqualVersionsMeanEqualBytes ls → (g top : ℕ) → top < length ls → (kept : Bool) (ts : List Turn) (m : ℕ) (bytes : Bytes) → module_in (layout_at ls g) m ≡ Some bytes
-    → (ss : List Span) → Each (IsRight carousel ls g top kept ts) ss → IsRow (flat_map (modules_in ts) ss) ss m bytes ⊎ IsNoRow (flat_map (modules_in ts) ss) ss m
+pub rows_right : (carousel : ℕ) (ls : List Layout) → EqualVersionsMeanEqualBytes ls → (g top : ℕ) → top < length ls → (kept : Bool) (ts : List (Turn Heard)) (m : ℕ) (bytes : Bytes) → module_in (layout_at ls g) m ≡ Some bytes
+    → (ss : List (Span Heard)) → Each (IsRight carousel ls g top kept ts) ss → IsRow (flat_map (modules_in ts) ss) ss m bytes ⊎ IsNoRow (flat_map (modules_in ts) ss) ss m
 rows_right carousel ls law g top lt kept ts m bytes listed [] each = inr (record { none = refl; none_by_dii = refl; absent = refl })
 rows_right carousel ls law g top lt kept ts m bytes listed (s ∷ ss) each = go (eqb (group_of m) (identification s.dii)) refl (rows_right carousel ls law g top lt kept ts m bytes listed ss each.1) where
   first_is : find (λ h. eqb h.line.id m) (modules_in ts s) ≡ entry_if (eqb (group_of m) (identification s.dii)) (held_module s (before s ts) (line_of (version_in ls g) (m, bytes)))
@@ -207,19 +219,19 @@ rows_right carousel ls law g top lt kept ts m bytes listed (s ∷ ss) each = go 
     })
 
 -- each DII of the newest turn
-each_right : (carousel : ℕ) (ls : List Layout) (g top : ℕ) (gs : List ℕ) (t : Turn) (ts : List Turn) → AreOf carousel ls top (g ∷ gs) (t ∷ ts)
-    → (ss : List Span) → Each (IsAdmitted carousel ls g top t.turning.kept) ss → Each (IsRight carousel ls g top t.turning.kept ts) ss
+each_right : (carousel : ℕ) (ls : List Layout) (g top : ℕ) (gs : List ℕ) (t : Turn Heard) (ts : List (Turn Heard)) → AreOf carousel ls top (g ∷ gs) (t ∷ ts)
+    → (ss : List (Span Heard)) → Each (IsAdmitted carousel ls g top t.turning.kept) ss → Each (IsRight carousel ls g top t.turning.kept ts) ss
 each_right carousel ls g top gs t ts of [] each = tt
 each_right carousel ls g top gs t ts of (s ∷ ss) each = (
   record { is = each.0; gens = _; chain_is = newest_are carousel ls g top gs t ts of s each.0 },
   each_right carousel ls g top gs t ts of ss each.1,
 )
 
-pub turn_right : (carousel : ℕ) (ls : List Layout) (g top : ℕ) (gs : List ℕ) (t : Turn) (ts : List Turn) → AreOf carousel ls top (g ∷ gs) (t ∷ ts) → Each (IsRight carousel ls g top t.turning.kept ts) (admitted t)
+pub turn_right : (carousel : ℕ) (ls : List Layout) (g top : ℕ) (gs : List ℕ) (t : Turn Heard) (ts : List (Turn Heard)) → AreOf carousel ls top (g ∷ gs) (t ∷ ts) → Each (IsRight carousel ls g top t.turning.kept ts) (admitted t)
 turn_right carousel ls g top gs t ts of = each_right carousel ls g top gs t ts of (admitted t) of.0.each
 
 -- what is held of a module of the generation, or that its DII isn't held
-pub table_right : (carousel : ℕ) (ls : List Layout) → EqualVersionsMeanEqualBytes ls → (hs : List Heard) (g top : ℕ) (gs : List ℕ) (t : Turn) (ts : List Turn) → top < length ls → AreOf carousel ls top (g ∷ gs) (t ∷ ts)
+pub table_right : (carousel : ℕ) (ls : List Layout) → EqualVersionsMeanEqualBytes ls → (hs : List Heard) (g top : ℕ) (gs : List ℕ) (t : Turn Heard) (ts : List (Turn Heard)) → top < length ls → AreOf carousel ls top (g ∷ gs) (t ∷ ts)
     → (m : ℕ) (bytes : Bytes) → module_in (layout_at ls g) m ≡ Some bytes → IsListedIn (held_in hs (t ∷ ts)) m bytes ⊎ IsUnlistedIn (held_in hs (t ∷ ts)) m
 table_right carousel ls law hs g top gs t ts lt of m bytes listed =
     go (rows_right carousel ls law g top lt t.turning.kept ts m bytes listed (admitted t) (turn_right carousel ls g top gs t ts of)) where
@@ -231,14 +243,14 @@ table_right carousel ls law hs g top gs t ts lt of m bytes listed =
 -- ---- blocks
 
 -- a block that is there by one of these DIIs is the module's
-block_of_span : (carousel : ℕ) (ls : List Layout) → EqualVersionsMeanEqualBytes ls → (g top : ℕ) → top < length ls → (kept : Bool) (ts : List Turn) (s : Span) → IsRight carousel ls g top kept ts s
-    → (m b : ℕ) (bytes : Bytes) → module_in (layout_at ls g) m ≡ Some bytes → MaybeIs (block_of_line s (before s ts) (line_in s m) b) (ddb.block_of bytes 4066 b)
+block_of_span : (carousel : ℕ) (ls : List Layout) → EqualVersionsMeanEqualBytes ls → (g top : ℕ) → top < length ls → (kept : Bool) (ts : List (Turn Heard)) (s : Span Heard) → IsRight carousel ls g top kept ts s
+    → (m b : ℕ) (bytes : Bytes) → module_in (layout_at ls g) m ≡ Some bytes → MaybeIs (block_of_line s (before s ts) (line_in s m) b) (ddb.block_of bytes BLOCK_SIZE b)
 block_of_span carousel ls law g top lt kept ts s r m b bytes listed =
-    subst (λ o. MaybeIs (block_of_line s (before s ts) o b) (ddb.block_of bytes 4066 b)) (sym (span_line carousel ls g top kept s r.is m bytes listed)) (go (eqb (group_of m) (identification s.dii))) where
-      go : (t : Bool) → MaybeIs (block_of_line s (before s ts) (line_if t (line_of (version_in ls g) (m, bytes))) b) (ddb.block_of bytes 4066 b)
+    subst (λ o. MaybeIs (block_of_line s (before s ts) o b) (ddb.block_of bytes BLOCK_SIZE b)) (sym (span_line carousel ls g top kept s r.is m bytes listed)) (go (eqb (group_of m) (identification s.dii))) where
+      go : (t : Bool) → MaybeIs (block_of_line s (before s ts) (line_if t (line_of (version_in ls g) (m, bytes))) b) (ddb.block_of bytes BLOCK_SIZE b)
       go false = inr refl
       go true =
-          first_maybe (bytes_if_fits s.dii (line_of (version_in ls g) (m, bytes)) b) (ddb.block_of bytes 4066 b) (stretch s (before s ts) (line_of (version_in ls g) (m, bytes)))
+          first_maybe (bytes_if_fits s.dii (line_of (version_in ls g) (m, bytes)) b) (ddb.block_of bytes BLOCK_SIZE b) (stretch s (before s ts) (line_of (version_in ls g) (m, bytes)))
           (stretch_right carousel ls law (identification s.dii) g top lt s r.gens (before s ts) r.chain_is s.dii (m, bytes) listed b)
 
 -- a block is there of a module alone that the generation has
@@ -249,7 +261,7 @@ line_listed versions (n ∷ ns) m l e = go (eqb n.0 m) refl (line_listed version
   go true f rest = (n.1, rw f refl)
   go false f rest = let x = rest (rw f at e) in (x.0, rw f x.1)
 
-line_of_module : (carousel : ℕ) (ls : List Layout) (g top : ℕ) (kept : Bool) (s : Span) → IsAdmitted carousel ls g top kept s → (m : ℕ) (l : ModuleLine) → line_in s m ≡ Some l
+line_of_module : (carousel : ℕ) (ls : List Layout) (g top : ℕ) (kept : Bool) (s : Span Heard) → IsAdmitted carousel ls g top kept s → (m : ℕ) (l : ModuleLine) → line_in s m ≡ Some l
     → (bytes : Bytes) × (module_in (layout_at ls g) m ≡ Some bytes)
 line_of_module carousel ls g top kept s a m l e =
     let i = identification s.dii in
@@ -257,7 +269,7 @@ line_of_module carousel ls g top kept s a m l e =
     let x = line_listed (version_in ls g) (group_in (layout_at ls g) i) m l own in
     (x.0, in_layout i (layout_at ls g) m x.0 x.1)
 
-pub there_listed : (carousel : ℕ) (ls : List Layout) (g top : ℕ) (kept : Bool) (ts : List Turn) (p : Span → Bool) (ss : List Span) → Each (IsRight carousel ls g top kept ts) ss
+pub there_listed : (carousel : ℕ) (ls : List Layout) (g top : ℕ) (kept : Bool) (ts : List (Turn Heard)) (p : Span Heard → Bool) (ss : List (Span Heard)) → Each (IsRight carousel ls g top kept ts) ss
     → (m b : ℕ) (block : Bytes) → block_by ts m b (find p ss) ≡ Some block → (bytes : Bytes) × (module_in (layout_at ls g) m ≡ Some bytes)
 there_listed carousel ls g top kept ts p [] each m b block e = cc
 there_listed carousel ls g top kept ts p (s ∷ ss) each m b block e = go (p s) (there_listed carousel ls g top kept ts p ss each.1 m b block) e where
@@ -271,15 +283,15 @@ there_listed carousel ls g top kept ts p (s ∷ ss) each m b block e = go (p s) 
   go false rest e = rest e
 
 -- by whichever of them
-pub found_right : (carousel : ℕ) (ls : List Layout) → EqualVersionsMeanEqualBytes ls → (g top : ℕ) → top < length ls → (kept : Bool) (ts : List Turn) (p : Span → Bool) (ss : List Span) → Each (IsRight carousel ls g top kept ts) ss
-    → (m b : ℕ) (bytes : Bytes) → module_in (layout_at ls g) m ≡ Some bytes → MaybeIs (block_by ts m b (find p ss)) (ddb.block_of bytes 4066 b)
+pub found_right : (carousel : ℕ) (ls : List Layout) → EqualVersionsMeanEqualBytes ls → (g top : ℕ) → top < length ls → (kept : Bool) (ts : List (Turn Heard)) (p : Span Heard → Bool) (ss : List (Span Heard)) → Each (IsRight carousel ls g top kept ts) ss
+    → (m b : ℕ) (bytes : Bytes) → module_in (layout_at ls g) m ≡ Some bytes → MaybeIs (block_by ts m b (find p ss)) (ddb.block_of bytes BLOCK_SIZE b)
 found_right carousel ls law g top lt kept ts p [] each m b bytes listed = inr refl
 found_right carousel ls law g top lt kept ts p (s ∷ ss) each m b bytes listed = go (p s) (found_right carousel ls law g top lt kept ts p ss each.1 m b bytes listed) where
-  go : (t : Bool) → MaybeIs (block_by ts m b (find p ss)) (ddb.block_of bytes 4066 b) → MaybeIs (block_by ts m b (cond t (Some s) (find p ss))) (ddb.block_of bytes 4066 b)
+  go : (t : Bool) → MaybeIs (block_by ts m b (find p ss)) (ddb.block_of bytes BLOCK_SIZE b) → MaybeIs (block_by ts m b (cond t (Some s) (find p ss))) (ddb.block_of bytes BLOCK_SIZE b)
   go true rest = block_of_span carousel ls law g top lt kept ts s each.0 m b bytes listed
   go false rest = rest
 
-pub block_right : (carousel : ℕ) (ls : List Layout) → EqualVersionsMeanEqualBytes ls → (g top : ℕ) (gs : List ℕ) (t : Turn) (ts : List Turn) → top < length ls → AreOf carousel ls top (g ∷ gs) (t ∷ ts)
-    → (m b : ℕ) (bytes : Bytes) → module_in (layout_at ls g) m ≡ Some bytes → MaybeIs (block_in (t ∷ ts) m b) (ddb.block_of bytes 4066 b)
+pub block_right : (carousel : ℕ) (ls : List Layout) → EqualVersionsMeanEqualBytes ls → (g top : ℕ) (gs : List ℕ) (t : Turn Heard) (ts : List (Turn Heard)) → top < length ls → AreOf carousel ls top (g ∷ gs) (t ∷ ts)
+    → (m b : ℕ) (bytes : Bytes) → module_in (layout_at ls g) m ≡ Some bytes → MaybeIs (block_in (t ∷ ts) m b) (ddb.block_of bytes BLOCK_SIZE b)
 block_right carousel ls law g top gs t ts lt of m b bytes listed =
     found_right carousel ls law g top lt t.turning.kept ts (λ s. lists (outline s.dii) m) (admitted t) (turn_right carousel ls g top gs t ts of) m b bytes listed

@@ -6,7 +6,7 @@ use Rattle.oc_bytes.specs.Grammar.{read}
 use Rattle.path_tree.specs.Paths.{Bytes}
 use Rattle.ddb_block.specs.Message.{message_at}
 use Rattle.ddb_block.specs.Blocks.{block_at}
-use Rattle.dsi_dii.specs.ControlReading.{dii_at, dsi_at, frame_at, private_at}
+use Rattle.dsi_dii.specs.Controls.{dii_at, dsi_at}
 use Rattle.biop_object.specs.ObjectReading.{object_at}
 use Rattle.cycle_planner.specs.declared.Item.{Item}
 use Rattle.cycle_planner.specs.declared.Item.TheVariants.{Dsi, Dii, Block}
@@ -130,23 +130,23 @@ premised lawful = record {
 -- ---- what is answered
 
 before : Tells two_diis_received 5 (Some 1) (answers.NotYet 1)
-unfolding read message_at block_at each_at dii_at dsi_at object_at sized_at frame_at private_at
+unfolding read message_at block_at each_at dii_at dsi_at object_at sized_at
 before = record { label_is = refl; answer_is = refl }
 
 awaited : Tells two_diis_received 7 (Some 2) (answers.NotYet 140)
-unfolding read message_at block_at each_at dii_at dsi_at object_at sized_at frame_at private_at
+unfolding read message_at block_at each_at dii_at dsi_at object_at sized_at
 awaited = record { label_is = refl; answer_is = refl }
 
 waiting : waiting_in (turns_of (map as_heard (candidates 256 (take 7 two_diis_received.packets)))) 140 0 ≡ Some file_alone
-unfolding read message_at block_at each_at dii_at dsi_at object_at sized_at frame_at private_at
+unfolding read message_at block_at each_at dii_at dsi_at object_at sized_at
 waiting = refl
 
 kept : Tells two_diis_received 8 (Some 2) (answers.File (1 ∷ 2 ∷ 3 ∷ []))
-unfolding read message_at block_at each_at dii_at dsi_at object_at sized_at frame_at private_at
+unfolding read message_at block_at each_at dii_at dsi_at object_at sized_at
 kept = record { label_is = refl; answer_is = refl }
 
 after : Tells two_diis_received 9 (Some 2) (answers.File (1 ∷ 2 ∷ 3 ∷ []))
-unfolding read message_at block_at each_at dii_at dsi_at object_at sized_at frame_at private_at
+unfolding read message_at block_at each_at dii_at dsi_at object_at sized_at
 after = record { label_is = refl; answer_is = refl }
 
 pub joining : LayoutsAreLawful → JoiningIsPremised

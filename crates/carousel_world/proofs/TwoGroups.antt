@@ -8,6 +8,7 @@ use Rattle.std.proofs.lemmas.List.Elements.{All-nil, All-cons, All-replicate}
 use Rattle.std.proofs.lemmas.List.Sums.{AllPass-from_list_all}
 use Rattle.std.proofs.lemmas.List.{length-replicate}
 use Rattle.std.specs.Option.{unwrap_or}
+use Rattle.carousel_profile.specs.declared.TheConstants.{BLOCK_SIZE}
 use Rattle.oc_bytes.specs.Cursor.{each_at, sized_at}
 use Rattle.oc_bytes.specs.Grammar.{read}
 use Rattle.oc_bytes.specs.Numbers.{IsBytes}
@@ -22,9 +23,10 @@ use Rattle.ddb_block.specs.Blocks.{block_count_of}
 use Rattle.dsi_dii.specs.Controls.{identification_of, dii_spelling}
 use Rattle.dsi_dii.specs.declared.ModuleLine.{ModuleLine}
 use Rattle.dsmcc_section.specs.Sections.{spelling}
+use Rattle.biop_object.specs.declared.reading.TheConstants.{FILE}
 use Rattle.biop_object.specs.Names.{Layout, Thing, AFile, AFolder, module_in, thing_at, location_of, thing_named}
-use Rattle.biop_object.specs.Objects.{Object, IsFile, IsFolder, BindingFields, file_kind}
-use Rattle.biop_object.specs.ObjectReading.{object_at, objects_of, reads_to_end}
+use Rattle.biop_object.specs.Objects.{Object, IsFile, IsFolder, BindingFields}
+use Rattle.biop_object.specs.ObjectReading.{object_at, reads_to_end, index_of}
 use Rattle.cycle_planner.specs.declared.Item.{Item}
 use Rattle.cycle_planner.specs.declared.Item.TheVariants.{Dsi, Dii, Block}
 use Rattle.generation.specs.Groups.{group_of, group_in, dii_transaction}
@@ -46,7 +48,7 @@ abbrev pub the_tap : TapFields
 the_tap = record { id = 0; use_code = 0x0016; assoc = 0x0001; selector = 0 ∷ 1 ∷ 128 ∷ 0 ∷ 0 ∷ 4 ∷ 255 ∷ 255 ∷ 255 ∷ 255 ∷ [] }
 
 abbrev pub the_binding : BindingFields
-the_binding = record { name = 97 ∷ []; kind = file_kind; target = record { kind = file_kind; profiles = Biop the_place (the_tap ∷ []) ∷ [] } }
+the_binding = record { name = 97 ∷ []; kind = FILE; target = record { kind = FILE; profiles = Biop the_place (the_tap ∷ []) ∷ [] } }
 
 abbrev pub the_folder : Object
 the_folder = record { key = key_bytes 1; shape = IsFolder (the_binding ∷ []) }
@@ -54,11 +56,11 @@ the_folder = record { key = key_bytes 1; shape = IsFolder (the_binding ∷ []) }
 abbrev pub the_file : Object
 the_file = record { key = key_bytes 2; shape = IsFile 44 3 }
 
-folder_read : objects_of gateway_to_file ≡ the_folder ∷ []
+folder_read : (index_of gateway_to_file).0 ≡ the_folder ∷ []
 unfolding read each_at sized_at object_at
 folder_read = refl
 
-file_read : objects_of file_alone ≡ the_file ∷ []
+file_read : (index_of file_alone).0 ≡ the_file ∷ []
 unfolding read each_at sized_at object_at
 file_read = refl
 
@@ -210,7 +212,7 @@ binding_inside = record {
 }
 
 abbrev IsFine : ℕ × Bytes → Type 0
-IsFine m = (key : Bytes) (bindings : List BindingFields) → Contains (objects_of m.1) (record { key = key; shape = IsFolder bindings }) → All (IsInside two_groups 1) bindings
+IsFine m = (key : Bytes) (bindings : List BindingFields) → Contains (index_of m.1).0 (record { key = key; shape = IsFolder bindings }) → All (IsInside two_groups 1) bindings
 
 folder_fine : IsFine (1, gateway_to_file)
 folder_fine key bindings has =
@@ -322,13 +324,13 @@ own n k lt (Block m b) e = by (or_cases (m == 1) (m == 140) (and_parts _ _ e).0)
   first = eqb-true b 0 (and_parts ((m == 1) || (m == 140)) (b == 0) e).1
 
   there : (i : ℕ) (bytes : Bytes) → m ≡ i → module_in two_groups i ≡ Some bytes
-      → 0 < block_count_of (length bytes) 4066 → IsItem (laid_out n) (suc k) (Block m b)
+      → 0 < block_count_of (length bytes) BLOCK_SIZE → IsItem (laid_out n) (suc k) (Block m b)
   there i bytes is listed some =
       let here : module_in (layout_at (laid_out n) (suc k)) m ≡ Some bytes =
       subst (λ x. module_in (layout_at (laid_out n) (suc k)) x ≡ Some bytes) (sym is)
       (its_module n k i bytes lt listed) in
-      let few : b < block_count_of (length bytes) 4066 =
-      subst (λ x. x < block_count_of (length bytes) 4066) (sym first) some in
+      let few : b < block_count_of (length bytes) BLOCK_SIZE =
+      subst (λ x. x < block_count_of (length bytes) BLOCK_SIZE) (sym first) some in
       (omega (arith, lt, size_of n), (bytes, here, few))
 
   by : ((m == 1) ≡ true) ⊎ ((m == 140) ≡ true) → IsItem (laid_out n) (suc k) (Block m b)
@@ -365,7 +367,7 @@ section_of n g item = section_in 1 (laid_out n) g item
 
 abbrev IsHeardAfter : ℕ → ℕ → ℕ → List Bytes → ℕ × Bytes → Type 0
 IsHeardAfter n g j after m = group_of m.0 ≡ j
-    → (b : ℕ) → b < block_count_of (length m.1) 4066 → Contains after (section_of n g (Block m.0 b))
+    → (b : ℕ) → b < block_count_of (length m.1) BLOCK_SIZE → Contains after (section_of n g (Block m.0 b))
 
 -- after it each block of its group's module
 pub blocks_after : (n k j : ℕ) (after : List Bytes) → k < n
@@ -446,7 +448,7 @@ lines_like n k lt (m ∷ ms) =
 abbrev dii_with : ℕ → ℕ → List ModuleLine → Bytes
 dii_with g j ls = spelling (control_section (dii_transaction g j % 65536) (dii_spelling (record {
   download = 1;
-  block_size = 4066;
+  block_size = BLOCK_SIZE;
   transaction = dii_transaction g j;
   modules = ls;
 })))

@@ -3,6 +3,7 @@ use Rattle.std.proofs.Common.{◌≡◌, ℕ, zero, suc, ◌<◌, ◌≤◌, Boo
 use Rattle.std.proofs.lemmas.Bool.{and_from, or_left, or_right}
 use Rattle.std.specs.Prelude.{slice_get}
 use Rattle.std.specs.List.{find, list_all, flat_map, range_with_len}
+use Rattle.carousel_profile.specs.declared.TheConstants.{BLOCK_SIZE}
 use Rattle.path_tree.specs.Paths.{Bytes, PathNames}
 use Rattle.path_tree.specs.Trees.{Tree, Node, File, Folder, NoSuch, node_at}
 use Rattle.biop_object.specs.Names.{Layout, module_in, thing_in}
@@ -17,10 +18,10 @@ use Rattle.generation.specs.Layouts.{gateway_location, lines_in}
 use Rattle.generation.specs.Groups.{group_in}
 use Rattle.generation.specs.Lawful.{Carries, IsNode, IsPublishable, layout_at, version_in, dii_in, section_in}
 use Rattle.path_resolver.specs.declared.answer.Answer.TheVariants as answers
-use Rattle.tuner_core.specs.Heard.{ADsi, as_heard}
+use Rattle.tuner_core.specs.Heard.{ADsi, as_heard, Heard}
 use Rattle.module_cache.specs.Joining.{outline, lists}
 use Rattle.module_cache.specs.Turns.{with_turning}
-use Rattle.tuner_core.specs.Spans.{Span}
+use Rattle.module_cache.specs.Spans.{Span}
 use Rattle.tuner_core.specs.Turns.{turns, turns_of, answer_after}
 use Rattle.carousel_world.specs.Headline.{is_dsi, is_dii, has_carousel, is_line_whole, IsAnswer, whole_by, is_whole_in, is_whole, first_missing}
 use Rattle.carousel_world.specs.Premises.{AcceptedAreSent}
@@ -39,21 +40,21 @@ use Rattle.carousel_world.proofs.Single.{IsSecond, second_of}
 -- ---- no block of a module with bytes is there
 
 -- the DII turned, and nothing was heard after it
-abbrev pub alone : DiiFields → Span
+abbrev pub alone : DiiFields → Span Heard
 alone d = record { dii = d; kept = false; since = [] }
 
 none_there : (f : ℕ → Bool) (n : ℕ) → 0 < n → f 0 ≡ false → list_all f (range_with_len 0 n) ≡ false
 none_there f zero some none = absurd (omega (arith, some))
 none_there f (suc n) some none = rw none refl
 
-some_blocks : (n : ℕ) → 0 < n → 0 < ddb.block_count_of n 4066
+some_blocks : (n : ℕ) → 0 < n → 0 < ddb.block_count_of n BLOCK_SIZE
 some_blocks n some = omega arith
 
 none_of : (c b : Bool) → b ≡ false → (c && b) ≡ false
 none_of true b e = e
 none_of false b e = refl
 
-line_awaited : (d : DiiFields) (version : ℕ → ℕ) (id : ℕ) (ms : Layout) → d.block_size ≡ 4066 → ((b : Bytes) → module_in ms id ≡ Some b → 0 < length b)
+line_awaited : (d : DiiFields) (version : ℕ → ℕ) (id : ℕ) (ms : Layout) → d.block_size ≡ BLOCK_SIZE → ((b : Bytes) → module_in ms id ≡ Some b → 0 < length b)
     → is_line_whole (alone d) [] (find (λ l. eqb l.id id) (map (line_of version) ms)) ≡ false
 line_awaited d version id [] size some = refl
 line_awaited d version id (m ∷ ms) size some = by (eqb m.0 id) refl (λ more. line_awaited d version id ms size more) where

@@ -6,6 +6,7 @@ use Rattle.std.proofs.lemmas.Grind.{div_ceil_times}
 use Rattle.std.proofs.lemmas.List.{length-drop, take_all}
 use Rattle.std.proofs.lemmas.List.Elements.{All-weaker}
 use Rattle.std.proofs.lemmas.List.Sums.{sum_by-cons, sum_by-append}
+use Rattle.carousel_profile.specs.declared.TheConstants.{BLOCK_SIZE}
 use Rattle.path_tree.specs.Paths.{Bytes}
 use Rattle.path_tree.specs.Trees.{Tree}
 use Rattle.biop_object.specs.Names.{Layout}
@@ -26,13 +27,13 @@ use Rattle.carousel_world.proofs.Modules.{IsSent, few_modules}
 
 -- ---- a cycle is short
 
-module_blocks : (size : ℕ) → 4066 * ddb.block_count_of size 4066 ≤ size + 4065
-module_blocks size = let times = div_ceil_times size 4066 (lit< tt) in omega (arith, times.1)
+module_blocks : (size : ℕ) → BLOCK_SIZE * ddb.block_count_of size BLOCK_SIZE ≤ size + 4065
+module_blocks size = let times = div_ceil_times size BLOCK_SIZE (lit< tt) in omega (arith, times.1)
 
-blocks_fit : (ms : Layout) → 4066 * sum_by (λ l. l.1) (lines_in ms) ≤ sum_by (λ m. length m.1) ms + 4065 * length ms
+blocks_fit : (ms : Layout) → BLOCK_SIZE * sum_by (λ l. l.1) (lines_in ms) ≤ sum_by (λ m. length m.1) ms + 4065 * length ms
 blocks_fit [] = omega arith
 blocks_fit (m ∷ ms) =
-    let here = sum_by-cons (λ (l : Line). l.1) (m.0, ddb.block_count_of (length m.1) 4066) (lines_in ms) in
+    let here = sum_by-cons (λ (l : Line). l.1) (m.0, ddb.block_count_of (length m.1) BLOCK_SIZE) (lines_in ms) in
     let total = sum_by-cons (λ (x : ℕ × Bytes). length x.1) m ms in
     let fit = module_blocks (length m.1) in
     let fits = blocks_fit ms in

@@ -37,11 +37,3 @@ pub record DownlinkStands (d : DownlinkState) (pid : ℕ) (groups : List (List B
   pub one_pid : d.demux.pid ≡ pid
   pub demux : rules.StandsFor d.demux packets
   pub tuner : tuning.StandsFor d.tuner (candidates pid packets)
-
--- the same after these packets more
-pub record Hears (d e : DownlinkState) (came : List Bytes) : Type 0 where
-  pub spent : e.spent ≡ d.spent
-  pub one_pid : e.demux.pid ≡ d.demux.pid
-  pub demux : (packets : List Bytes) → rules.StandsFor d.demux packets → rules.StandsFor e.demux (packets ++ came)
-  pub tuner : (packets : List Bytes) → rules.StandsFor d.demux packets → tuning.StandsFor d.tuner (candidates d.demux.pid packets)
-      → tuning.StandsFor e.tuner (candidates d.demux.pid (packets ++ came))

@@ -9,13 +9,13 @@ use Rattle.dsi_dii.specs.declared.ModuleLine.{ModuleLine}
 use Rattle.biop_object.specs.Names.{Layout, thing_at, location_of}
 use Rattle.generation.specs.Layouts.{gateway_location}
 use Rattle.module_cache.specs.Joining.{outline, lists}
-use Rattle.module_cache.specs.Turns.{admitted, has_admitted, before}
+use Rattle.module_cache.specs.Turns.{admitted, has_admitted, before, Turn}
 use Rattle.path_resolver.specs.declared.answer.Answer.{Answer}
 use Rattle.path_resolver.specs.declared.answer.Answer.TheVariants as answers
 use Rattle.tuner_core.specs.Heard.{Heard, ADsi, ADii, as_heard}
 use Rattle.tuner_core.specs.LookBack.{block_among}
-use Rattle.tuner_core.specs.Spans.{Span, identification, stretch}
-use Rattle.tuner_core.specs.Turns.{Turn, turns_of}
+use Rattle.module_cache.specs.Spans.{Span}
+use Rattle.tuner_core.specs.Turns.{identification, stretch, turns_of}
 
 -- a file's bytes and a folder's names are those of the tree
 abbrev pub IsNodeAnswer : Answer → Node → Type 0
@@ -29,32 +29,32 @@ IsNodeAnswer _ _ = ⊥
 -- Of a module that a held DII lists, what was heard in its stretch is there: since the DIIs of that identification describe it as the
 -- held one does, from turn to turn, with fewer than 256 commits from each turn to the next. `ss` are those DIIs before it. Of a
 -- compressed module nothing is there.
-abbrev pub block_of_line : Span → List Span → Option ModuleLine → ℕ → Option Bytes
+abbrev pub block_of_line : Span Heard → List (Span Heard) → Option ModuleLine → ℕ → Option Bytes
 block_of_line s ss (Some l) b = if l.compressed then None else block_among (stretch s ss l) s.dii l b
 block_of_line s ss None b = None
 
 -- each block is there
-abbrev pub has_each_block : Span → List Span → ModuleLine → Bool
+abbrev pub has_each_block : Span Heard → List (Span Heard) → ModuleLine → Bool
 has_each_block s ss l = list_all (λ b. is_some (block_among (stretch s ss l) s.dii l b)) (range_with_len 0 (block_count_of l.size s.dii.block_size))
 
-abbrev pub is_line_whole : Span → List Span → Option ModuleLine → Bool
+abbrev pub is_line_whole : Span Heard → List (Span Heard) → Option ModuleLine → Bool
 is_line_whole s ss (Some l) = not l.compressed && has_each_block s ss l
 is_line_whole s ss None = false
 
 -- the module's line in the DII
-abbrev pub line_in : Span → ℕ → Option ModuleLine
+abbrev pub line_in : Span Heard → ℕ → Option ModuleLine
 line_in s m = find (λ l. l.id == m) s.dii.modules
 
 -- the first of these DIIs that lists the module
-abbrev pub listing : ℕ → List Span → Option Span
+abbrev pub listing : ℕ → List (Span Heard) → Option (Span Heard)
 listing m ss = find (λ s. lists (outline s.dii) m) ss
 
-abbrev pub block_by : List Turn → ℕ → ℕ → Option Span → Option Bytes
+abbrev pub block_by : List (Turn Heard) → ℕ → ℕ → Option (Span Heard) → Option Bytes
 block_by ts m b (Some s) = block_of_line s (before s ts) (line_in s m) b
 block_by ts m b None = None
 
 -- by the DIIs that were admitted in the newest turn
-abbrev pub block_in : List Turn → ℕ → ℕ → Option Bytes
+abbrev pub block_in : List (Turn Heard) → ℕ → ℕ → Option Bytes
 block_in [] m b = None
 block_in (t ∷ ts) m b = block_by ts m b (listing m (admitted t))
 
@@ -62,11 +62,11 @@ block_in (t ∷ ts) m b = block_by ts m b (listing m (admitted t))
 abbrev pub block_there : List Bytes → ℕ → ℕ → Option Bytes
 block_there candidates m b = block_in (turns_of (map as_heard candidates)) m b
 
-abbrev pub whole_by : List Turn → ℕ → Option Span → Bool
+abbrev pub whole_by : List (Turn Heard) → ℕ → Option (Span Heard) → Bool
 whole_by ts m (Some s) = is_line_whole s (before s ts) (line_in s m)
 whole_by ts m None = false
 
-abbrev pub is_whole_in : List Turn → ℕ → Bool
+abbrev pub is_whole_in : List (Turn Heard) → ℕ → Bool
 is_whole_in [] m = false
 is_whole_in (t ∷ ts) m = whole_by ts m (listing m (admitted t))
 
@@ -77,16 +77,16 @@ is_whole candidates m = is_whole_in (turns_of (map as_heard candidates)) m
 -- ---- what waits
 
 -- a DII that lists the module, and of whose identification none was admitted in this turn
-abbrev pub is_awaited : Turn → ℕ → Span → Bool
+abbrev pub is_awaited : Turn Heard → ℕ → Span Heard → Bool
 is_awaited t m s = not (has_admitted t (identification s.dii)) && lists (outline s.dii) m
 
-abbrev pub waits_by : List Turn → Turn → ℕ → ℕ → List Turn → Option Bytes
+abbrev pub waits_by : List (Turn Heard) → Turn Heard → ℕ → ℕ → List (Turn Heard) → Option Bytes
 waits_by ts t m b [] = None
 waits_by ts t m b (u ∷ us) = if t.turning.kept then block_by us m b (find (is_awaited t m) (admitted u)) else None
 
 -- a block of a module that waits for its DII: it was held before the last turn, which kept it, and no DII of its identification was
 -- admitted since
-abbrev pub waiting_in : List Turn → ℕ → ℕ → Option Bytes
+abbrev pub waiting_in : List (Turn Heard) → ℕ → ℕ → Option Bytes
 waiting_in [] m b = None
 waiting_in (t ∷ ts) m b = waits_by ts t m b ts
 

@@ -12,3 +12,4 @@ pub mod DownView
 pub mod View
 pub mod Runs
 pub mod Settling
+pub mod Inner

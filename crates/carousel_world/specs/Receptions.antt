@@ -7,26 +7,26 @@ use Rattle.biop_object.specs.Names.{Layout, module_in}
 use Rattle.ddb_block.specs.Blocks.{block_of}
 use Rattle.dsi_dii.specs.Controls.{DiiFields}
 use Rattle.generation.specs.Lawful.{Lawful, layout_at, tree_at, HasDii, dii_in}
-use Rattle.module_cache.specs.Turns.{newest}
+use Rattle.module_cache.specs.Turns.{newest, Turn}
 use Rattle.path_resolver.specs.declared.answer.Answer.{Answer}
 use Rattle.path_resolver.specs.declared.answer.Answer.TheVariants as answers
 use Rattle.section_stream.specs.Cuts.{candidates}
-use Rattle.tuner_core.specs.Heard.{ADii, as_heard}
-use Rattle.tuner_core.specs.Spans.{Span}
-use Rattle.tuner_core.specs.Turns.{Turn, turns_of, label_of, answer_after}
+use Rattle.tuner_core.specs.Heard.{ADii, as_heard, Heard}
+use Rattle.module_cache.specs.Spans.{Span}
+use Rattle.tuner_core.specs.Turns.{turns_of, answer_after, label_in, turnings}
 use Rattle.carousel_world.specs.Broadcasts.{Broadcast, Sending, sendings, SendsInOrder, Ascription, NeverBack, IsAscribed}
 use Rattle.carousel_world.specs.Headline.{IsAnswer, IsNodeAnswer, is_dii, has_carousel, first_missing, block_there, waiting_in}
 use Rattle.carousel_world.specs.Premises.{Ascribed, AcceptedAreSent, IsAcceptedAt, IsFromGeneration, IsHeardOf, IsWhole}
-use Rattle.dsi_dii.specs.declared.TheConstants.{BLOCK_SIZE}
+use Rattle.carousel_profile.specs.declared.TheConstants.{BLOCK_SIZE}
 
 -- the number of the generation that a receiver takes what it holds for
 abbrev pub label_after : List Bytes → Option ℕ
-label_after candidates = label_of (turns_of (map as_heard candidates))
+label_after candidates = label_in (turnings (turns_of (map as_heard candidates)))
 
 -- the number before the last turn
-abbrev pub label_before : List Turn → Option ℕ
+abbrev pub label_before : List (Turn Heard) → Option ℕ
 label_before [] = None
-label_before (t ∷ ts) = label_of ts
+label_before (t ∷ ts) = label_in (turnings ts)
 
 -- something of this generation was sent
 abbrev pub IsSentIn : Broadcast → ℕ → Type 0
@@ -41,7 +41,7 @@ pub record IsDiiOf (carousel : ℕ) (ls : List Layout) (g : ℕ) (d : DiiFields)
   pub is : d ≡ dii_in carousel ls g number
 
 -- a held DII is one of that generation's, and was heard
-pub record IsHeldOf (b : Broadcast) (candidates : List Bytes) (generation : ℕ) (s : Span) : Type 0 where
+pub record IsHeldOf (b : Broadcast) (candidates : List Bytes) (generation : ℕ) (s : Span Heard) : Type 0 where
   pub dii : IsDiiOf b.carousel b.layouts generation s.dii
   pub heard : Contains (map as_heard candidates) (ADii s.dii)
 

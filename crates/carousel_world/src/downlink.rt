@@ -10,10 +10,12 @@ ghost use Rattle.section_stream.specs.Cuts.{candidates};
 ghost use Rattle.tuner_core.specs.Stands as tuning;
 ghost use Rattle.tuner_core.specs.LookBack.{answer_after, snapshot_after};
 ghost use Rattle.carousel_world.specs.Fates.{fate_of, received_under};
-ghost use Rattle.carousel_world.specs.DownView.{DownlinkStands, Hears, begun_with, ended_with, packets_given, past_given};
+ghost use Rattle.carousel_world.specs.DownView.{DownlinkStands, begun_with, ended_with, packets_given, past_given};
+ghost use Rattle.carousel_world.specs.Inner.DownView.{Hears};
 ghost use Rattle.carousel_world.specs.Receptions.{label_after};
 ghost use Rattle.cycle_planner.specs.declared.TheConstants.{MOST_DRAWN};
 
+use carousel_profile::PACKET_LENGTH;
 use oc_bytes::NoMemory;
 use path_resolver::{Answer, Holding, Shot};
 use path_tree::Path;
@@ -163,7 +165,7 @@ impl Downlink {
     /// Sends what the packer held back of a draw, in these packets, and answers the number of the packet after it.
     fn send_rest(
         &mut self,
-        packets: &mut Vec<[u8; 188]>,
+        packets: &mut Vec<[u8; PACKET_LENGTH]>,
         fates: &[Fate],
         from: u64,
     ) -> Result<u64, NoMemory>
@@ -179,7 +181,12 @@ impl Downlink {
     }
 
     /// Receives what arrives of packets, the first of which has this number, and answers the number after them.
-    fn receive(&mut self, packets: &[[u8; 188]], fates: &[Fate], from: u64) -> Result<u64, NoMemory>
+    fn receive(
+        &mut self,
+        packets: &[[u8; PACKET_LENGTH]],
+        fates: &[Fate],
+        from: u64,
+    ) -> Result<u64, NoMemory>
         requires { from + length packets.now < 2 ^ 64 }
         ensures number { IfOk result (λ n. n ≡ from + length packets.now) }
         ensures mux { OnOk result (self.new.mux ≡ self.old.mux) }
@@ -197,7 +204,7 @@ impl Downlink {
     }
 
     /// Receives one packet.
-    fn hear(&mut self, packet: &[u8; 188]) -> Result<(), NoMemory>
+    fn hear(&mut self, packet: &[u8; PACKET_LENGTH]) -> Result<(), NoMemory>
         ensures mux { OnOk result (self.new.mux ≡ self.old.mux) }
         ensures hears { OnOk result (Hears self.old self.new (packet.now ∷ [])) }
     {

@@ -1,8 +1,8 @@
 ghost use Rattle.std.specs.Prelude.{◌≡◌, ◌<◌, ◌≤◌, ◌*◌, ◌++◌, ◌∷◌, [], List, ℕ, map, length, true, IfOk, IsErr, OnOk, OnErr};
-ghost use Rattle.std.specs.List.{All, Contains};
+ghost use Rattle.std.specs.List.{All};
 ghost use Rattle.path_tree.specs.Paths.{Bytes};
 ghost use Rattle.cycle_planner.specs.Weights.{AreWeights};
-ghost use Rattle.generation.specs.Layouts.{items_of, section_of};
+ghost use Rattle.generation.specs.Layouts.{section_of, AreItemsOf};
 ghost use Rattle.section_stream.specs.Kept.{view_bytes};
 ghost use Rattle.section_stream.specs.Packing.{IsSectionLike};
 ghost use Rattle.section_stream.specs.Groups.{packets_of_group};
@@ -10,12 +10,13 @@ ghost use Rattle.carousel_world.specs.DownView.{DownlinkStands};
 ghost use Rattle.carousel_world.specs.Events.{view, Step, Commit, Draw, Open};
 ghost use Rattle.carousel_world.specs.Promises.{MeetsHeadline, world_after};
 ghost use Rattle.carousel_world.specs.Fates.{received_under};
-ghost use Rattle.carousel_world.specs.World.{WorldState, InRange, AsksForMemory, initial_world, reply_to, happens, replies_to, after_all};
+ghost use Rattle.carousel_world.specs.World.{WorldState, InRange, AsksForMemory, initial_world, reply_to};
 ghost use Rattle.cycle_planner.specs.declared.TheConstants.{MOST_DRAWN};
 
 use crate::downlink::Downlink;
 use crate::event::{Event, Reply};
 use crate::laws::every_run_meets_the_headline;
+use carousel_profile::CAROUSEL_PID;
 use cycle_planner::{Item, Weigh};
 use generation::Generation;
 use generation_catalogue::{Batch, CommitFault, DrawFault, Journal};
@@ -25,7 +26,7 @@ use std::alloc::{AllocError, Global};
 use ts_packet::Fate;
 
 /// The PID on which a world sends.
-const PID: u16 = 256;
+const PID: u16 = CAROUSEL_PID;
 
 /// The most items of a draw whose sections are in memory at once.
 const PIECE: usize = 1024;
@@ -41,7 +42,7 @@ pub struct World {
 }
 
 impl World {
-    ghost use Rattle.carousel_world.specs.View.{kept_in, StandsFor, IsLeft};
+    ghost use Rattle.carousel_world.specs.View.{kept_in, StandsFor, IsLeft, Follows, FollowsAll, IsReply, AreReplies, WantsMemory};
 
     /// The world of a carousel, any 32-bit id, whose modules are sent as often as they weigh, and in which nothing has happened:
     /// generation 0 with the empty tree, and a receiver that has heard nothing. The weights are 1 to 8, as those of each `Weigh` are.
@@ -66,15 +67,10 @@ impl World {
     /// each later call answers it. In another event it changes nothing.
     pub fn step(&mut self, event: Event) -> Result<Reply, NoMemory>
         requires { InRange (view event) }
-        ensures reply { IfOk result (λ r.
-            (w : WorldState) → StandsFor (kept_in self.old) w → r ≡ reply_to w (view event)) }
-        ensures stands { OnOk result ((w : WorldState)
-            → StandsFor (kept_in self.old) w
-            → StandsFor (kept_in self.new) (happens w (view event))) }
+        ensures reply { IfOk result (IsReply (kept_in self.old) (view event)) }
+        ensures stands { OnOk result (Follows (kept_in self.old) (kept_in self.new) (view event)) }
         ensures left { OnErr result (IsLeft (view event) (kept_in self.old) (kept_in self.new)) }
-        ensures memory { OnErr result ((w : WorldState)
-            → StandsFor (kept_in self.old) w
-            → AsksForMemory w (view event)) }
+        ensures memory { OnErr result (WantsMemory (kept_in self.old) (view event)) }
         ensures stays { (kept_in self.old).down.spent ≡ true
             → IsErr result × ((kept_in self.new).down.spent ≡ true) }
     {
@@ -90,17 +86,11 @@ impl World {
 
     /// A commit.
     fn commit(&mut self, editor: u32, edits: Edits) -> Result<Reply, NoMemory>
-        ensures reply { IfOk result (λ r.
-            (w : WorldState)
-            → StandsFor (kept_in self.old) w
-            → r ≡ reply_to w (Commit editor edits)) }
-        ensures stands { OnOk result ((w : WorldState)
-            → StandsFor (kept_in self.old) w
-            → StandsFor (kept_in self.new) (happens w (Commit editor edits))) }
+        ensures reply { IfOk result (IsReply (kept_in self.old) (Commit editor edits)) }
+        ensures stands { OnOk result
+            (Follows (kept_in self.old) (kept_in self.new) (Commit editor edits)) }
         ensures left { OnErr result (kept_in self.new ≡ kept_in self.old) }
-        ensures memory { OnErr result ((w : WorldState)
-            → StandsFor (kept_in self.old) w
-            → AsksForMemory w (Commit editor edits)) }
+        ensures memory { OnErr result (WantsMemory (kept_in self.old) (Commit editor edits)) }
     {
         match self.journal.commit_edits(editor, edits) {
             Ok(number) => Ok(Reply::Committed(number)),
@@ -112,17 +102,11 @@ impl World {
     /// A draw. Out of memory spends the world.
     fn draw(&mut self, asked: u32, fates: &[Fate]) -> Result<Reply, NoMemory>
         requires { (1 ≤ asked) × (asked ≤ MOST_DRAWN) }
-        ensures reply { IfOk result (λ r.
-            (w : WorldState)
-            → StandsFor (kept_in self.old) w
-            → r ≡ reply_to w (Draw asked fates.now)) }
-        ensures stands { OnOk result ((w : WorldState)
-            → StandsFor (kept_in self.old) w
-            → StandsFor (kept_in self.new) (happens w (Draw asked fates.now))) }
+        ensures reply { IfOk result (IsReply (kept_in self.old) (Draw asked fates.now)) }
+        ensures stands { OnOk result
+            (Follows (kept_in self.old) (kept_in self.new) (Draw asked fates.now)) }
         ensures left { OnErr result ((kept_in self.new).down.spent ≡ true) }
-        ensures memory { OnErr result ((w : WorldState)
-            → StandsFor (kept_in self.old) w
-            → AsksForMemory w (Draw asked fates.now)) }
+        ensures memory { OnErr result (WantsMemory (kept_in self.old) (Draw asked fates.now)) }
     {
         let drawn = self.draw_and_send(asked, fates);
         if drawn.is_err() {
@@ -134,16 +118,10 @@ impl World {
     /// The same of a world that works.
     fn draw_and_send(&mut self, asked: u32, fates: &[Fate]) -> Result<Reply, NoMemory>
         requires { (1 ≤ asked) × (asked ≤ MOST_DRAWN) }
-        ensures reply { IfOk result (λ r.
-            (w : WorldState)
-            → StandsFor (kept_in self.old) w
-            → r ≡ reply_to w (Draw asked fates.now)) }
-        ensures stands { OnOk result ((w : WorldState)
-            → StandsFor (kept_in self.old) w
-            → StandsFor (kept_in self.new) (happens w (Draw asked fates.now))) }
-        ensures memory { OnErr result ((w : WorldState)
-            → StandsFor (kept_in self.old) w
-            → AsksForMemory w (Draw asked fates.now)) }
+        ensures reply { IfOk result (IsReply (kept_in self.old) (Draw asked fates.now)) }
+        ensures stands { OnOk result
+            (Follows (kept_in self.old) (kept_in self.new) (Draw asked fates.now)) }
+        ensures memory { OnErr result (WantsMemory (kept_in self.old) (Draw asked fates.now)) }
     {
         let batch = match self.journal.draw(&self.weigh, asked) {
             Ok(batch) => batch,
@@ -182,12 +160,9 @@ impl World {
     fn run_all(&mut self, events: Vec<Event>) -> Result<Vec<Reply>, NoMemory>
         requires { All InRange (map view events.items) }
         ensures replies { IfOk result (λ rs.
-            (w : WorldState)
-            → StandsFor (kept_in self.old) w
-            → rs.items ≡ replies_to w (map view events.items)) }
-        ensures stands { OnOk result ((w : WorldState)
-            → StandsFor (kept_in self.old) w
-            → StandsFor (kept_in self.new) (after_all w (map view events.items))) }
+            AreReplies (kept_in self.old) (map view events.items) rs.items) }
+        ensures stands { OnOk result
+            (FollowsAll (kept_in self.old) (kept_in self.new) (map view events.items)) }
         ensures memory { OnErr result (0 < length events.items) }
     {
         let mut replies = Vec::with_capacity(self.alloc, events.len())?;
@@ -207,12 +182,9 @@ impl World {
     pub fn run(&mut self, events: Vec<Event>) -> Result<Vec<Reply>, NoMemory>
         requires { All InRange (map view events.items) }
         ensures replies { IfOk result (λ rs.
-            (w : WorldState)
-            → StandsFor (kept_in self.old) w
-            → rs.items ≡ replies_to w (map view events.items)) }
-        ensures stands { OnOk result ((w : WorldState)
-            → StandsFor (kept_in self.old) w
-            → StandsFor (kept_in self.new) (after_all w (map view events.items))) }
+            AreReplies (kept_in self.old) (map view events.items) rs.items) }
+        ensures stands { OnOk result
+            (FollowsAll (kept_in self.old) (kept_in self.new) (map view events.items)) }
         ensures headline { IfOk result (λ _.
             (carousel : ℕ) (weights : List ℕ) (before : List Step)
             → StandsFor (kept_in self.old) (world_after carousel weights before)
@@ -252,7 +224,7 @@ impl World {
 
 /// The sections of some items of a generation.
 fn encode(alloc: Global, generation: &Generation, items: &[Item]) -> Result<Vec<Vec<u8>>, NoMemory>
-    requires { All (λ item. Contains (items_of generation.now) item) items.now }
+    requires { AreItemsOf generation.now items.now }
     ensures sections { IfOk result (λ ss.
         map view_bytes ss.items ≡ map (section_of generation.now) items.now) }
     ensures like { IfOk result (λ ss. All (λ s. IsSectionLike s.items) ss.items) }
@@ -272,7 +244,7 @@ fn send(
     items: &[Item],
     fates: &[Fate],
 ) -> Result<(), NoMemory>
-    requires items { All (λ item. Contains (items_of generation.now) item) items.now }
+    requires items { AreItemsOf generation.now items.now }
     requires few { length items.now ≤ MOST_DRAWN }
     ensures { OnOk result ((pid : ℕ) (groups : List (List Bytes)) (packets : List Bytes)
         → DownlinkStands downlink.old pid groups [] packets

@@ -1,11 +1,11 @@
-ghost use Rattle.std.specs.Prelude.{◌≡◌, ◌<◌, map, OnOk};
+ghost use Rattle.std.specs.Prelude.{◌≡◌, ◌<◌, OnOk};
 ghost use Rattle.std.specs.List.{All, Contains, concat, fold};
-ghost use Rattle.cycle_planner.specs.Cycle.{cycle_of};
-ghost use Rattle.generation.specs.Layouts.{items_of, lines_of, section_of};
+ghost use Rattle.generation.specs.Layouts.{items_of, section_of, cycle_sections};
 ghost use Rattle.section_stream.specs.Groups.{IsBetween, packets_of_group, past_group};
 ghost use Rattle.section_stream.specs.Packing.{IsSectionLike, after_finish, idle, last_of, packets_of, packets_of_all, past};
 ghost use Rattle.shell_streams.specs.Sending.{Puts};
 
+use carousel_profile::PACKET_LENGTH;
 use cycle_planner::{Item, Walk, Weigh};
 use generation::Generation;
 use section_stream::Mux;
@@ -17,7 +17,7 @@ use std::alloc::Global;
 pub struct Sender {
     pub mux: Mux,
     /// Room for the packets of one section.
-    pub packets: Vec<[u8; 188]>,
+    pub packets: Vec<[u8; PACKET_LENGTH]>,
 }
 
 impl Sender {
@@ -40,19 +40,13 @@ impl Sender {
         out: &mut O,
     ) -> Result<(), OutputFault>
         requires between { IsBetween self.old.mux }
-        requires like { All IsSectionLike
-            (map (section_of generation.now)
-            (cycle_of weigh.now.weights (lines_of generation.now))) }
+        requires like { All IsSectionLike (cycle_sections weigh.now.weights generation.now) }
         ensures puts { Puts result (O.state out.old) (O.state out.new)
             (concat
-            (packets_of_group self.old.mux
-            (map (section_of generation.now)
-            (cycle_of weigh.now.weights (lines_of generation.now))))) }
+            (packets_of_group self.old.mux (cycle_sections weigh.now.weights generation.now))) }
         ensures mux { OnOk result
             (self.new.mux
-            ≡ past_group self.old.mux
-            (map (section_of generation.now)
-            (cycle_of weigh.now.weights (lines_of generation.now)))) }
+            ≡ past_group self.old.mux (cycle_sections weigh.now.weights generation.now)) }
     {
         self.send_cycle(generation, weigh, out)?;
         self.finish(out)
@@ -67,14 +61,10 @@ impl Sender {
     ) -> Result<(), OutputFault>
         ensures puts { Puts result (O.state out.old) (O.state out.new)
             (concat
-            (packets_of_all self.old.mux
-            (map (section_of generation.now)
-            (cycle_of weigh.now.weights (lines_of generation.now))))) }
+            (packets_of_all self.old.mux (cycle_sections weigh.now.weights generation.now))) }
         ensures mux { OnOk result
             (self.new.mux
-            ≡ fold past self.old.mux
-            (map (section_of generation.now)
-            (cycle_of weigh.now.weights (lines_of generation.now)))) }
+            ≡ fold past self.old.mux (cycle_sections weigh.now.weights generation.now)) }
     {
         let lines = generation.lines();
         let mut walk = Walk::new(lines, weigh);
@@ -116,7 +106,10 @@ impl Sender {
 }
 
 /// Puts packets after what is pending.
-pub fn put_packets<O: Output>(packets: &[[u8; 188]], out: &mut O) -> Result<(), OutputFault>
+pub fn put_packets<O: Output>(
+    packets: &[[u8; PACKET_LENGTH]],
+    out: &mut O,
+) -> Result<(), OutputFault>
     ensures { Puts result (O.state out.old) (O.state out.new) (concat packets.now) }
 {
     out.put(packets.as_flattened())

@@ -4,13 +4,14 @@ use Rattle.std.specs.Prelude.{Result}
 use Rattle.std.proofs.lemmas.Bool.{le-leb, leb-true, eqb-true, eq-eqb, and_from, and_parts}
 use Rattle.std.proofs.lemmas.List.{take_at}
 use Rattle.std.proofs.lemmas.List.Elements.{All-take}
+use Rattle.ddb_block.specs.declared.TheConstants.{MOST_BLOCK_SIZE}
 use Rattle.oc_bytes.specs.Numbers.{IsBytes, two_bytes, four_bytes}
 use Rattle.oc_bytes.specs.Cursor.{Cursor, Reading, from_start, number_at, bytes_at, value_only}
 use Rattle.oc_bytes.specs.Agreement.{at}
 use Rattle.oc_bytes.specs.Grammar.{read as read_by, Reads as ReadsBy, spell, Fits as FitsBy}
 use Rattle.oc_bytes.proofs.CallerLemmas.{bind_ok, bytes_fit, each_fits, fits_back, fits_taken, held_ok, wide_2, number_agrees, bytes_agrees, grammar_agrees, fits_reads, spelled_again, joined, last}
 use Rattle.ddb_block.specs.Message.{IsMessage, Opening, opening, message, prefix_of, message_at}
-use Rattle.ddb_block.specs.Blocks.{Block, BlockFields, block_fields, fields_of, Fits, Reads, read, block_at, spelling}
+use Rattle.ddb_block.specs.Blocks.{Block, block_fields, fields_of, Fits, Reads, read, block_at, spelling}
 
 -- numbers below 256
 abbrev pub AreBytes : List ℕ → Type 0
@@ -121,7 +122,7 @@ spelling_is_message id t body hid ht hsize = record {
 
 -- ---- a block
 
-block_of : (download : ℕ) → BlockFields → List ℕ → Block
+block_of : (download : ℕ) → ℕ × ℕ × ℕ → List ℕ → Block
 block_of download f bytes = record { download = download; module_id = f.0; version = f.1; number = f.2; bytes = bytes }
 
 pub block_is_read : (payload : List ℕ) (b : Block) → Reads payload b → read payload ≡ Ok b
@@ -145,7 +146,7 @@ read_is_block payload b small e =
     let is : block_of m.0.0 f.0.0 f.0.1.rest ≡ b = ap (λ (p : Block × Cursor). p.0) (same_value f.2) in
     subst (λ (x : Block). Reads payload x) is (record { front = t.front; fields = t.reads; message = subst (λ l. IsMessage payload 0x1003 m.0.0 l) t.parts found.0 })
 
-pub spelling_reads : (b : Block) → Fits b → length b.bytes ≤ 4066 → Reads (spelling b) b
+pub spelling_reads : (b : Block) → Fits b → length b.bytes ≤ MOST_BLOCK_SIZE → Reads (spelling b) b
 unfolding FitsBy spell
 spelling_reads b f h = record {
   front = two_bytes b.module_id ++ (b.version ∷ 0xFF ∷ []) ++ two_bytes b.number;
@@ -153,7 +154,7 @@ spelling_reads b f h = record {
   message = spelling_is_message 0x1003 b.download (two_bytes b.module_id ++ (b.version ∷ 0xFF ∷ []) ++ two_bytes b.number ++ b.bytes) (lit< tt) f.download (omega arith);
 }
 
-pub spelled_reads : (bytes : List ℕ) (b : Block) → bytes ≡ spelling b → Fits b → length b.bytes ≤ 4066 → Reads bytes b
+pub spelled_reads : (bytes : List ℕ) (b : Block) → bytes ≡ spelling b → Fits b → length b.bytes ≤ MOST_BLOCK_SIZE → Reads bytes b
 spelled_reads bytes b e fits short = rw e (spelling_reads b fits short)
 
 pub spelling_length : (b : Block) → length (spelling b) ≡ length b.bytes + 18

@@ -33,10 +33,7 @@ pub record Fits (b : Block) : Type 0 where
   pub number : b.number < 65536
 
 -- the fields before a block's bytes: moduleId, moduleVersion and blockNumber
-abbrev pub BlockFields : Type 0
-BlockFields = ℕ × ℕ × ℕ
-
-abbrev pub block_fields : Grammar BlockFields
+abbrev pub block_fields : Grammar (ℕ × ℕ × ℕ)
 block_fields =
     field (number two) (λ f. f.0) λ module_id.
     field (number one) (λ f. f.1) λ version.
@@ -44,7 +41,7 @@ block_fields =
     field (number two) (λ f. f.2) λ block.
     gives (module_id, version, block)
 
-abbrev pub fields_of : Block → BlockFields
+abbrev pub fields_of : Block → ℕ × ℕ × ℕ
 fields_of b = (b.module_id, b.version, b.number)
 
 pub record Reads (payload : List ℕ) (b : Block) : Type 0 where

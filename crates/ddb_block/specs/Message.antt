@@ -1,6 +1,6 @@
 -- The header that every download message has.
-use Rattle.std.specs.Prelude.{◌≡◌, ℕ, ◌+◌, ◌<◌, List, [], ◌∷◌, ◌++◌, length, nat_le, ◌&&◌, ◌-◌, Ok}
-use Rattle.oc_bytes.specs.Cursor.{Cursor, Reading, ◌>>=◌, number_at, bytes_at, if_holds, within}
+use Rattle.std.specs.Prelude.{◌≡◌, ℕ, ◌+◌, ◌<◌, List, [], ◌∷◌, ◌++◌, length, nat_le, ◌&&◌, ◌-◌, Ok, Err, if◌then◌else◌}
+use Rattle.oc_bytes.specs.Cursor.{Cursor, Reading, ◌>>=◌, number_at, bytes_at, within}
 use Rattle.oc_bytes.specs.Grammar.{Grammar, one, two, four, number, field, gives, this, read}
 use Rattle.oc_bytes.specs.Numbers.{two_bytes, four_bytes}
 
@@ -27,9 +27,6 @@ pub record Opening : Type 0 where
   pub reserved : ℕ
   pub adaptation_length : ℕ
 
-abbrev pub opening_with : (transaction reserved adaptation_length : ℕ) → Opening
-opening_with t r a = record { transaction = t; reserved = r; adaptation_length = a }
-
 abbrev pub opening : ℕ → Grammar Opening
 opening id =
     field (this one 0x11) (λ o. 0x11) λ protocol.
@@ -40,19 +37,11 @@ opening id =
     field (number one) (λ o. o.adaptation_length) λ adaptation_length.
     gives (record { transaction = transaction; reserved = reserved; adaptation_length = adaptation_length })
 
--- after the opening: its transaction, and the cursor over the body
-unfoldable pub body_at : (transaction adaptation_length : ℕ) → Cursor → Reading ℕ
-body_at transaction adaptation_length c = do
-  size ← number_at 2 c
-  fitting ← if_holds c (nat_le adaptation_length size.0 && nat_le size.0 (length size.1.rest)) size
-  adaptation ← bytes_at adaptation_length fitting.1
-  Ok (transaction, within (size.0 - adaptation_length) adaptation.1)
-
 -- the transaction, and the cursor over the body
 unfoldable pub message_at : ℕ → Cursor → Reading ℕ
 message_at id c = do
   opened ← read (opening id) c
   size ← number_at 2 opened.1
-  fitting ← if_holds opened.1 (nat_le opened.0.adaptation_length size.0 && nat_le size.0 (length size.1.rest)) size
+  fitting ← if nat_le opened.0.adaptation_length size.0 && nat_le size.0 (length size.1.rest) then Ok size else Err opened.1.place
   adaptation ← bytes_at opened.0.adaptation_length fitting.1
   Ok (opened.0.transaction, within (size.0 - opened.0.adaptation_length) adaptation.1)

@@ -6,7 +6,8 @@ ghost use Rattle.oc_bytes.specs.Grammar.{read};
 ghost use Rattle.oc_bytes.specs.Outcome.{Gives};
 ghost use Rattle.oc_bytes.specs.Cause.{place_of};
 ghost use Rattle.ddb_block.specs.Message as spellings;
-ghost use Rattle.ddb_block.specs.Message.{IsMessage, opening, opening_with, body_at, prefix_of, message_at};
+ghost use Rattle.ddb_block.specs.Message.{IsMessage, opening, prefix_of, message_at};
+ghost use Rattle.ddb_block.specs.Inner.Message.{opening_with, body_at};
 
 use oc_bytes::{Cut, Fields};
 
@@ -38,7 +39,7 @@ fn opening_of(fields: &mut Fields<'_>, id: u16) -> Result<(u32, u8, u8), Cut>
 }
 
 /// Reads what follows an opening: its transaction again, and the fields of the body.
-#[tactic(auto, unfolding(crate::specs::Message::body_at))]
+#[tactic(auto, unfolding(crate::specs::Inner::Message::body_at))]
 fn body_of<'a>(
     fields: &mut Fields<'a>,
     transaction: u32,
@@ -63,7 +64,7 @@ fn body_of<'a>(
 /// Places are counted from the payload's first byte. [`Cut`] has the place of the first field that is cut, or that breaks its
 /// rule: protocolDiscriminator is 0x11, dsmccType 0x03 and messageId `id`; messageLength is at least adaptationLength and
 /// at most the number of bytes after it.
-#[tactic(auto, unfolding(crate::specs::Message::message_at, crate::specs::Message::body_at))]
+#[tactic(auto, unfolding(crate::specs::Message::message_at, crate::specs::Inner::Message::body_at))]
 pub fn message(payload: &[u8], id: u16) -> Result<(u32, Fields<'_>), Cut>
     ensures { Gives (λ x. x) place_of result (message_at id (from_start payload.now)) }
 {

@@ -15,7 +15,7 @@
 ghost use Rattle.std.specs.Prelude.{◌≡◌, ◌≤◌, ◌<◌, ◌++◌, ◌∷◌, [], Ok, length, ◌+◌, IfOk, IsErrOf, IsOkAnd, OnErr};
 ghost use Rattle.oc_bytes.specs.Cursor.{Cursor, value_only};
 ghost use Rattle.oc_bytes.specs.Numbers.{two_bytes};
-ghost use Rattle.oc_bytes.specs.Outcome.{Gives};
+ghost use Rattle.oc_bytes.specs.Outcome.{Gives, MakesList};
 ghost use Rattle.oc_bytes.specs.Cause.{place_of};
 ghost use Rattle.ddb_block.specs.Blocks.{Block, Fits, view, parts_view, Reads, read, spelling, cause, block_count_of, block_span_of, SpansFill};
 
@@ -143,7 +143,7 @@ pub fn block_front(parts: &Parts<'_>) -> [u8; 18]
 /// The bytes of a block message.
 fn written(alloc: Global, ddb: &Ddb) -> Result<Vec<u8>, NoMemory>
     requires { length ddb.now.bytes.items ≤ MOST_BLOCK_SIZE }
-    ensures spells { IfOk result (λ bytes. bytes.items ≡ spelling (view ddb.now)) }
+    ensures spells { MakesList result (spelling (view ddb.now)) }
     ensures fits { IfOk result (λ _. Fits (view ddb.now)) }
 {
     let mut bytes = Vec::with_capacity(alloc, ddb.bytes.len() + 18)?;
@@ -166,7 +166,7 @@ fn written(alloc: Global, ddb: &Ddb) -> Result<Vec<u8>, NoMemory>
 #[tactic(auto, using(crate::proofs::Laws::spelled_reads))]
 pub fn encode(alloc: Global, ddb: &Ddb) -> Result<Vec<u8>, NoMemory>
     requires { length ddb.now.bytes.items ≤ MOST_BLOCK_SIZE }
-    ensures spells { IfOk result (λ bytes. bytes.items ≡ spelling (view ddb.now)) }
+    ensures spells { MakesList result (spelling (view ddb.now)) }
     ensures reads { IfOk result (λ bytes. Reads bytes.items (view ddb.now)) }
 {
     let bytes = written(alloc, ddb)?;

@@ -1,5 +1,5 @@
 -- Control messages: what is read is what the relation says, and the other way round.
-use Rattle.std.proofs.Common.{◌≡◌, ℕ, ◌+◌, ◌<◌, ◌==◌, Bool, true, false, cond, List, [], ◌∷◌, ◌++◌, length, get_or, take, drop, Result, Ok, Err, sym, ap, subst, ◌∙◌, refl, arith}
+use Rattle.std.proofs.Common.{◌≡◌, ℕ, ◌+◌, ◌<◌, ◌==◌, Bool, true, false, cond, List, [], ◌∷◌, ◌++◌, length, get_or, take, drop, Result, Ok, Err, sym, ap, subst, ◌∙◌, refl, arith, ◌-◌}
 use Rattle.std.proofs.lemmas.Bool.{ne_eqb}
 use Rattle.std.proofs.lemmas.List.{take-append-drop}
 use Rattle.std.specs.Prelude.{IfOk, Some}
@@ -12,11 +12,9 @@ use Rattle.oc_bytes.proofs.CallerLemmas.{bytes_fit, each_fits, fits_front, fits_
 use Rattle.ddb_block.specs.Message.{IsMessage, message_at}
 use Rattle.ddb_block.proofs.CallerLemmas.{message_is_read, read_is_message}
 use Rattle.ior_tap.specs.Iors as iors
-use Rattle.ior_tap.specs.IorReading.{ior_at}
 use Rattle.dsi_dii.specs.declared.Control.{Control}
 use Rattle.dsi_dii.specs.declared.ControlFault.{ControlFault}
-use Rattle.dsi_dii.specs.Controls.{Message, IsDsi, IsDii, DsiFields, DiiFields, dii_body, private_data, ReadsDii, ReadsDsi, IsDsiFrame, IsGateway, Reads, view, cause}
-use Rattle.dsi_dii.specs.ControlReading.{dii_at, private_at, frame_at, dsi_at, gateway_at, message_id_of, read}
+use Rattle.dsi_dii.specs.Controls.{Message, IsDsi, IsDii, DsiFields, DiiFields, dii_body, private_data, ReadsDii, ReadsDsi, IsDsiFrame, IsGateway, Reads, view, cause, dii_at, dsi_at, gateway_at, message_id_of, read}
 
 -- ---- the messageId
 
@@ -67,19 +65,6 @@ dii_found payload fits =
       message = subst (λ (n : ℕ). IsMessage payload 0x1002 n (k.0 ++ d.1.rest)) same k.2;
     }
 
-private_read : (c : Cursor) → IfOk (private_at c) (λ x. read_by private_data c ≡ Ok (x.0.1, x.1))
-unfolding private_at
-private_read c = after_both (read_by private_data c) _ _ λ p e. e
-
-frame_found : (payload : List ℕ) → IsBytes payload
-    → IfOk (frame_at (from_start payload)) (λ x. IsDsiFrame payload x.0.0 x.0.1.1)
-unfolding frame_at
-frame_found payload fits =
-    after_both (message_at 0x1006 (from_start payload)) _ _ λ t e.
-    after_both (private_at t.1) _ _ λ p f.
-    let k = begins private_data 0x1006 payload t (p.0.1, p.1) (omega arith) fits e (rw f at (private_read t.1)) in
-    record { front = k.0; trailing = p.1.rest; body = k.1; message = k.2 }
-
 -- the private data are bytes
 private_fits : (payload : List ℕ) (transaction : ℕ) (private : List ℕ) → IsBytes payload
     → IsDsiFrame payload transaction private → IsBytes private
@@ -95,8 +80,8 @@ private_fits payload transaction private fits h =
 
 gateway_found : (place : ℕ) (private : List ℕ) (after : Cursor) → IsBytes private
     → IfOk (gateway_at place private after) (λ x. IsGateway private x.0)
-gateway_found place private after fits = go (read_from_start (ior_at (from_start private))) refl where
-  go : (r : Result (iors.Fields × ℕ) ℕ) → read_from_start (ior_at (from_start private)) ≡ r
+gateway_found place private after fits = go (read_from_start (read_by iors.ior (from_start private))) refl where
+  go : (r : Result (iors.Fields × ℕ) ℕ) → read_from_start (read_by iors.ior (from_start private)) ≡ r
       → IfOk (gateway_at place private after) (λ x. IsGateway private x.0)
   go (Ok x) e =
       let h = is_found (grammar_agrees iors.ior) (λ y. y) Some private (Ok x) fits e in
@@ -107,11 +92,13 @@ gateway_found place private after fits = go (read_from_start (ior_at (from_start
 dsi_found : (payload : List ℕ) → IsBytes payload → IfOk (dsi_at (from_start payload)) (λ x. Reads payload x.0)
 unfolding dsi_at
 dsi_found payload fits =
-    after_both (frame_at (from_start payload)) _ _ λ x e.
-    after_both (gateway_at x.0.1.0 x.0.1.1 x.1) _ _ λ g f.
-    let frame : IsDsiFrame payload x.0.0 x.0.1.1 = rw e at (frame_found payload fits) in
-    let private = private_fits payload x.0.0 x.0.1.1 fits frame in
-    record { private = x.0.1.1; frame = frame; gateway = rw f at (gateway_found x.0.1.0 x.0.1.1 x.1 private) }
+    after_both (message_at 0x1006 (from_start payload)) _ _ λ t e.
+    after_both (read_by private_data t.1) _ _ λ p f.
+    after_both (gateway_at (p.1.place - length p.0) p.0 p.1) _ _ λ g h.
+    let k = begins private_data 0x1006 payload t p (omega arith) fits e f in
+    let frame : IsDsiFrame payload t.0 p.0 = record { front = k.0; trailing = p.1.rest; body = k.1; message = k.2 } in
+    let private = private_fits payload t.0 p.0 fits frame in
+    record { private = p.0; frame = frame; gateway = rw h at (gateway_found (p.1.place - length p.0) p.0 p.1 private) }
 
 read_found : (payload : List ℕ) → IsBytes payload → IfOk (read payload) (Reads payload)
 read_found payload fits = go (message_id_of payload == 0x1006) where
@@ -137,7 +124,7 @@ dii_again payload d h =
 
 dsi_again : (payload : List ℕ) (d : DsiFields) → ReadsDsi payload d
     → value_only (dsi_at (from_start payload)) ≡ Ok (IsDsi d)
-unfolding dsi_at frame_at private_at
+unfolding dsi_at
 dsi_again payload d h =
     let f = h.frame in
     let g = h.gateway in

@@ -3,7 +3,8 @@ use Rattle.std.proofs.Common.{rules, ◌≡◌, ℕ, ◌+◌, ◌*◌, ◌<◌, 
 use Rattle.std.proofs.lemmas.List.{append-nil}
 use Rattle.std.proofs.lemmas.List.Elements.{recursion_from_All}
 use Rattle.std.specs.List.{flat_map, AllByRecursion}
-use Rattle.std.specs.Prelude.{replicate}
+use Rattle.std.specs.Prelude.{replicate, Option}
+use Rattle.std.specs.Option.{option_map_or}
 use Rattle.oc_bytes.specs.Grammar.{Fits, FitsEach, spell, Reads as ReadsBy}
 use Rattle.oc_bytes.specs.Numbers.{two_bytes, four_bytes}
 use Rattle.oc_bytes.proofs.CallerLemmas.{fits_reads, front_spelled}
@@ -12,7 +13,7 @@ use Rattle.ddb_block.proofs.CallerLemmas.{spelling_is_message}
 use Rattle.ior_tap.specs.Iors as iors
 use Rattle.dsi_dii.specs.declared.ModuleLine.{ModuleLine}
 use Rattle.dsi_dii.specs.Spellings.{IsSpellable}
-use Rattle.dsi_dii.specs.Controls.{DiiFields, DsiFields, info, line, dii_body, private_data, compressed_of, ReadsDii, ReadsDsi, dsi_body, line_bytes, LineFits, dii_head, dii_spelling}
+use Rattle.dsi_dii.specs.Controls.{DiiFields, DsiFields, info, line, dii_body, private_data, ReadsDii, ReadsDsi, dsi_body, line_bytes, LineFits, dii_head, dii_spelling, is_compressed}
 
 -- ---- a DII
 
@@ -35,7 +36,7 @@ info_fits = search rules
 line_fits : (l : ModuleLine) → l.compressed ≡ false → LineFits l → Fits line l
 unfolding Fits spell
 line_fits l plain fits =
-    let same = plain ∙ sym (ap compressed_of (front_spelled info [] info_fits)) in
+    let same = plain ∙ sym (ap (λ (o : Option (List ℕ)). option_map_or is_compressed o false) (front_spelled info [] info_fits)) in
     (fits.id, (fits.size, (fits.version, (omega arith, ap made same)))) where
       made : Bool → ModuleLine
       made b = record { id = l.id; size = l.size; version = l.version; compressed = b }

@@ -1,20 +1,23 @@
 -- Control messages: the DSI with the gateway, and the DIIs with the modules.
-use Rattle.std.specs.Prelude.{◌≡◌, ℕ, zero, suc, nat_le, ◌+◌, ◌-◌, ◌*◌, ◌/◌, ◌%◌, ◌<◌, Bool, false, List, [], ◌∷◌, ◌++◌, length, replicate, drop, Option, Some, None, ◌==◌, if◌then◌else◌}
+use Rattle.std.specs.Prelude.{◌≡◌, ℕ, ◌+◌, ◌-◌, ◌*◌, ◌/◌, ◌%◌, ◌<◌, Bool, false, List, [], ◌∷◌, ◌++◌, length, replicate, drop, Option, Some, None, ◌==◌, if◌then◌else◌, take, Result, Ok, Err}
 use Rattle.std.specs.List.{flat_map, list_any, All}
-use Rattle.oc_bytes.specs.Numbers.{two_bytes, four_bytes}
-use Rattle.ddb_block.specs.Message.{IsMessage, message}
-use Rattle.ior_tap.specs.Iors as iors
+use Rattle.std.specs.Option.{option_map_or}
+use Rattle.carousel_profile.specs.declared.TheConstants.{ASSOCIATION_TAG, BLOCK_SIZE, BLOCK_USE, DSI_TRANSACTION, NO_TIME_OUT}
+use Rattle.oc_bytes.specs.Numbers.{two_bytes, four_bytes, number_of}
+use Rattle.oc_bytes.specs.Descriptors.{descriptors_in}
+use Rattle.ddb_block.specs.Message.{IsMessage, message, message_at}
 use Rattle.ior_tap.specs.declared.Location.{Location}
-use Rattle.dsi_dii.specs.declared.TheConstants.{BLOCK_SIZE}
 use Rattle.dsi_dii.specs.declared.Dsi.{Dsi}
 use Rattle.dsi_dii.specs.declared.Dii.{Dii}
 use Rattle.dsi_dii.specs.declared.ModuleLine.{ModuleLine}
 use Rattle.dsi_dii.specs.declared.Control.{Control}
-use Rattle.dsi_dii.specs.declared.Control.TheVariants as code
 use Rattle.dsi_dii.specs.declared.ControlFault.{ControlFault}
-use Rattle.dsi_dii.specs.declared.ControlFault.TheVariants as faults
-use Rattle.oc_bytes.specs.Grammar.{Grammar, one, two, four, number, bytes, sized, each, field, gives, passed, front_of, Reads as ReadsBy}
+use Rattle.oc_bytes.specs.Grammar.{Grammar, one, two, four, number, bytes, sized, each, field, gives, passed, front_of, Reads as ReadsBy, read as read_by, spell}
 use Rattle.dsi_dii.specs.declared.reading.Head.{Head}
+use Rattle.oc_bytes.specs.Cursor.{Cursor, Reading, ◌>>=◌, from_start, read_from_start, value_only}
+use Rattle.ior_tap.specs.Iors as iors
+use Rattle.dsi_dii.specs.declared.Control.TheVariants as code
+use Rattle.dsi_dii.specs.declared.ControlFault.TheVariants as faults
 
 pub record DsiFields : Type 0 where
   pub transaction : ℕ
@@ -49,61 +52,40 @@ identification_of transaction = transaction / 2 % 32768
 
 -- the transactionId of DII j of generation g: its version is g, its identification is j, and its flag is the generation's last bit
 abbrev pub dii_transaction : ℕ → ℕ → ℕ
-dii_transaction g j = 0x80000000 + g * 65536 + 2 * j + g % 2
+dii_transaction g j = DSI_TRANSACTION + g * 65536 + 2 * j + g % 2
 
 abbrev pub distance_of : ℕ → ℕ → ℕ
 distance_of old new = (new + 16384 - old) % 16384
 
--- the tag of a descriptor that stands whole at the front, and what follows it: a tag, a length and that many bytes
-abbrev pub next_descriptor : List ℕ → Option (ℕ × List ℕ)
-next_descriptor (tag ∷ n ∷ others) = if nat_le n (length others) then Some (tag, drop n others) else None
-next_descriptor _ = None
-
-abbrev pub onto_tags : (List ℕ → List ℕ) → Option (ℕ × List ℕ) → List ℕ
-onto_tags others (Some d) = d.0 ∷ others d.1
-onto_tags others None = []
-
--- the tags of a run of descriptors, as far as they stand whole; each has two bytes at least, so that the bytes bound the steps
-abbrev pub tags : ℕ → List ℕ → List ℕ
-tags zero left = []
-tags (suc steps) left = onto_tags (tags steps) (next_descriptor left)
-
+-- a whole descriptor of tag 0x09, compressed_module_descriptor, stands in the user info
 abbrev pub is_compressed : List ℕ → Bool
-is_compressed user_info = list_any (λ tag. tag == 0x09) (tags (length user_info) user_info)
+is_compressed user_info = list_any (λ d. d.0 == 0x09) (descriptors_in user_info)
 
 -- ---- the grammar
 
-abbrev pub no_time_outs : List ℕ
-no_time_outs = four_bytes 0xFFFFFFFF ++ four_bytes 0xFFFFFFFF ++ four_bytes 0
-
--- the tap of a module's blocks, as it is written
-abbrev pub block_tap : iors.TapFields
-block_tap = record { id = 0; use_code = 0x0017; assoc = 0x0001; selector = [] }
-
--- the user info of a moduleInfo, after three time-outs and the taps
+-- the user info of a moduleInfo, after three time-outs and the taps; written is the tap of the module's blocks
 abbrev pub info : Grammar (List ℕ)
 info =
-    field (bytes 12) (λ u. no_time_outs) λ times.
+    field (bytes 12) (λ u. four_bytes NO_TIME_OUT ++ four_bytes NO_TIME_OUT ++ four_bytes 0) λ times.
     field (number one) (λ u. 1) λ taps_count.
-    field (passed (each iors.tap taps_count) (block_tap ∷ [])) (λ u. tt) λ taps.
+    field (passed (each iors.tap taps_count)
+    (record { id = 0; use_code = BLOCK_USE; assoc = ASSOCIATION_TAG; selector = [] } ∷ [])) (λ u. tt) λ taps.
     sized one
 
--- a moduleInfo that doesn't read is taken as one without user info (this project's own rule); bytes after it are passed over
-abbrev pub compressed_of : Option (List ℕ) → Bool
-compressed_of (Some user_info) = is_compressed user_info
-compressed_of None = false
-
-abbrev pub written_info : List ℕ
-written_info = four_bytes 0xFFFFFFFF ++ four_bytes 0xFFFFFFFF ++ four_bytes 0 ++ 1 ∷ two_bytes 0 ++ two_bytes 0x0017 ++ two_bytes 0x0001 ++ 0 ∷ 0 ∷ []
-
--- a module
+-- a module; a moduleInfo that doesn't read is taken as one without user info (this project's own rule), and bytes after it
+-- are passed over
 abbrev pub line : Grammar ModuleLine
 line =
     field (number two) (λ l. l.id) λ id.
     field (number four) (λ l. l.size) λ size.
     field (number one) (λ l. l.version) λ version.
-    field (sized one) (λ l. written_info) λ module_info.
-    gives (record { id = id; size = size; version = version; compressed = compressed_of (front_of info module_info) })
+    field (sized one) (λ l. spell info []) λ module_info.
+    gives (record {
+      id = id;
+      size = size;
+      version = version;
+      compressed = option_map_or is_compressed (front_of info module_info) false;
+    })
 
 -- the fields of a DII before its modules
 abbrev pub head : Grammar Head
@@ -118,13 +100,11 @@ head =
     field (number two) (λ h. h.modules) λ modules.
     gives (record { download = download; block_size = block_size; modules = modules })
 
-abbrev pub head_of : DiiFields → Head
-head_of d = record { download = d.download; block_size = d.block_size; modules = length d.modules }
-
 -- a DII in a message of this transactionId
 abbrev pub dii_body : ℕ → Grammar DiiFields
 dii_body transaction =
-    field head head_of λ h.
+    field head (λ d.
+    record { download = d.download; block_size = d.block_size; modules = length d.modules }) λ h.
     field (each line h.modules) (λ d. d.modules) λ modules.
     field (sized two) (λ d. []) λ private.
     gives (record { download = h.download; block_size = h.block_size; transaction = transaction; modules = modules })
@@ -174,6 +154,11 @@ pub record LineFits (l : ModuleLine) : Type 0 where
   pub size : l.size < 4294967296
   pub version : l.version < 256
 
+-- a moduleInfo without user info, byte by byte
+abbrev pub written_info : List ℕ
+written_info = four_bytes NO_TIME_OUT ++ four_bytes NO_TIME_OUT ++ four_bytes 0 ++ 1 ∷ two_bytes 0
+    ++ two_bytes BLOCK_USE ++ two_bytes ASSOCIATION_TAG ++ 0 ∷ 0 ∷ []
+
 abbrev pub line_bytes : ModuleLine → List ℕ
 line_bytes l = two_bytes l.id ++ four_bytes l.size ++ l.version ∷ length written_info ∷ written_info
 
@@ -198,3 +183,48 @@ pub record IsWrittenDii (d : DiiFields) : Type 0 where
 abbrev pub cause : ControlFault → Option ℕ
 cause (faults.NotControl place) = Some place
 cause faults.NoMemory = None
+
+-- ---- Reading control messages from left to right, with the place of the first field that breaks a rule or is cut
+-- (ISO/IEC 13818-6, clauses 7.2, 7.3 and 11; ETSI TR 101 202, clause 4.7).
+
+abbrev pub head_at : Cursor → Reading Head
+head_at = read_by head
+
+-- the fields of a DII before its modules, in its message
+unfoldable pub opening_at : Cursor → Reading Head
+opening_at c = do
+  transaction ← message_at 0x1002 c
+  head_at transaction.1
+
+unfoldable pub dii_at : Cursor → Reading Message
+dii_at c = do
+  transaction ← message_at 0x1002 c
+  dii ← read_by (dii_body transaction.0) transaction.1
+  Ok (IsDii dii.0, dii.1)
+
+-- the gateway's IOR, read inside the private data that stands at a place of the message
+abbrev pub gateway_at : (place : ℕ) (private : List ℕ) → Cursor → Reading iors.Fields
+gateway_at place private after = go (read_from_start (read_by iors.ior (from_start private))) where
+  go : Result (iors.Fields × ℕ) ℕ → Reading iors.Fields
+  go (Ok x) = Ok (x.0, after)
+  go (Err at) = Err (place + at)
+
+-- the private data of a DSI, in its message
+unfoldable pub private_at : Cursor → Reading (List ℕ)
+private_at c = do
+  transaction ← message_at 0x1006 c
+  read_by private_data transaction.1
+
+unfoldable pub dsi_at : Cursor → Reading Message
+dsi_at c = do
+  transaction ← message_at 0x1006 c
+  private ← read_by private_data transaction.1
+  gateway ← gateway_at (private.1.place - length private.0) private.0 private.1
+  Ok (IsDsi (record { transaction = transaction.0; gateway = gateway.0 }), gateway.1)
+
+abbrev pub message_id_of : List ℕ → ℕ
+message_id_of payload = number_of (take 2 (drop 2 payload))
+
+-- the messageId decides; any other one than the two is a fault at its place
+abbrev pub read : List ℕ → Result Message ℕ
+read payload = value_only (if message_id_of payload == 0x1006 then dsi_at (from_start payload) else dii_at (from_start payload))

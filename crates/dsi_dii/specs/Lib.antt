@@ -1,3 +1,3 @@
 pub mod Controls
-pub mod ControlReading
 pub mod Spellings
+pub mod Inner

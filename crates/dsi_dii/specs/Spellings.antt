@@ -4,8 +4,7 @@ use Rattle.std.specs.List.{All}
 use Rattle.ior_tap.specs.Iors as iors
 use Rattle.ior_tap.specs.declared.Location.{Location}
 use Rattle.dsi_dii.specs.declared.TheConstants.{MOST_MODULES}
-use Rattle.dsi_dii.specs.Controls.{DiiFields, IsWrittenDii, LineFits, IsDsi, IsDii, dii_spelling, dsi_spelling}
-use Rattle.dsi_dii.specs.ControlReading.{read}
+use Rattle.dsi_dii.specs.Controls.{DiiFields, IsWrittenDii, LineFits, IsDsi, IsDii, dii_spelling, dsi_spelling, read}
 
 -- a DII of the written form whose numbers have room in their fields, and whose modules have room in a section
 pub record IsSpellable (d : DiiFields) : Type 0 where

@@ -28,7 +28,8 @@ mod limits;
 mod reading;
 mod writing;
 
-use ddb_block::MOST_BLOCK_SIZE;
+pub use carousel_profile::BLOCK_SIZE;
+use carousel_profile::DSI_TRANSACTION;
 use ior_tap::Ior;
 pub use limits::limits_are_numbers;
 use module_groups::GROUP_SIZE;
@@ -40,9 +41,6 @@ pub use writing::{encode_dii, encode_dsi, spellings_read_back};
 
 /// The most modules of a DII, 139: one section has no room for more.
 pub const MOST_MODULES: usize = GROUP_SIZE as usize;
-
-/// The block size of each DII that is written, in bytes: the greatest.
-pub const BLOCK_SIZE: u16 = MOST_BLOCK_SIZE;
 
 /// The most bytes that all modules of a carousel have together. This project's own limit.
 pub const MOST_TOTAL_SIZE: u32 = 268_435_456;
@@ -58,9 +56,9 @@ pub struct TransactionId(pub u32);
 impl TransactionId {
     /// That of every DSI: made by the network, all else 0.
     pub fn dsi() -> TransactionId
-        ensures { result.0 ≡ 0x80000000 }
+        ensures { result.0 ≡ DSI_TRANSACTION }
     {
-        TransactionId(0x8000_0000)
+        TransactionId(DSI_TRANSACTION)
     }
 
     /// That of the DII of a group of modules, 1 to [`module_groups::MOST_GROUPS`], in this generation, 0 to [`LAST_GENERATION`]: the
@@ -74,7 +72,7 @@ impl TransactionId {
         ensures identification { identification_of result.0 ≡ group }
     {
         let flag = (generation % 2) as u32;
-        TransactionId(0x8000_0000 + generation as u32 * 65536 + 2 * u32::from(group) + flag)
+        TransactionId(DSI_TRANSACTION + generation as u32 * 65536 + 2 * u32::from(group) + flag)
     }
 
     /// The version, 0 to 16,383.

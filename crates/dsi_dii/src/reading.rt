@@ -1,19 +1,22 @@
-ghost use Rattle.std.specs.Prelude.{◌≡◌, ◌↔◌, ◌≤◌, ◌<◌, ◌+◌, ℕ, ◌==◌, List, Some, None, Ok, length, IsTrue, IfOk, IfSome, IsErrOf, IsOkAnd, MatchResult};
-ghost use Rattle.std.specs.Option.{option_map};
+ghost use Rattle.std.specs.Prelude.{◌≡◌, ◌↔◌, ◌≤◌, ◌<◌, ◌+◌, ℕ, ◌==◌, List, Some, None, Ok, length, IsTrue, IfOk, IsErrOf, IsOkAnd, MatchResult, false};
+ghost use Rattle.std.specs.Option.{option_map_or};
+ghost use Rattle.std.specs.List.{list_any};
+ghost use Rattle.oc_bytes.specs.Descriptors.{descriptors_in};
 ghost use Rattle.oc_bytes.specs.Outcome.{Gives};
 ghost use Rattle.oc_bytes.specs.Cause.{place_of};
-ghost use Rattle.oc_bytes.specs.Cursor.{Cursor, from_start, each_at, skip_reading, value_read, value_only};
+ghost use Rattle.oc_bytes.specs.Cursor.{Cursor, from_start, each_at, skip_reading, value_only};
+ghost use Rattle.oc_bytes.specs.Grammar.{front_of, read as read_by};
 ghost use Rattle.ior_tap.specs.IorReading.{tap_at, profile_count_at};
 ghost use Rattle.ior_tap.specs.Iors as iors;
 ghost use Rattle.dsi_dii.specs.Controls as controls;
-ghost use Rattle.dsi_dii.specs.Controls.{cause, compressed_of, view, Message, Reads};
+ghost use Rattle.dsi_dii.specs.Controls.{cause, view, Message, Reads, head_at, gateway_at, private_at, dsi_at, opening_at, dii_at, message_id_of, read};
 ghost use Rattle.dsi_dii.specs.declared.reading.Head.{Head};
-ghost use Rattle.dsi_dii.specs.ControlReading.{info_at, line_at, head_at, gateway_at, private_at, frame_at, dsi_at, opening_at, dii_at, message_id_of, read};
+ghost use Rattle.dsi_dii.specs.Inner.ControlReading.{line_at};
 
 use crate::{Control, ControlFault, Dii, Dsi, ModuleLine, TransactionId};
 use ddb_block::message;
 use ior_tap::{Ior, IorFault};
-use oc_bytes::{Cut, Fields};
+use oc_bytes::{Cut, Descriptors, Fields};
 use std::alloc::Global;
 
 /// The fields of a DII before its modules, without those that are passed over.
@@ -69,8 +72,8 @@ fn pass_taps(fields: &mut Fields, count: u8) -> Result<(), Cut>
 /// The user info of a moduleInfo.
 #[tactic(auto, unfolding(oc_bytes::specs::Grammar::read))]
 fn user_info(info: &[u8]) -> Result<&[u8], Cut>
-    ensures { MatchResult result (λ u. value_read (info_at (from_start info.now)) ≡ Some u.now)
-        (λ _. value_read (info_at (from_start info.now)) ≡ None) }
+    ensures { MatchResult result (λ u. front_of controls.info info.now ≡ Some u.now)
+        (λ _. front_of controls.info info.now ≡ None) }
 {
     let mut fields = Fields::new(info);
     fields.take(12)?;
@@ -79,29 +82,15 @@ fn user_info(info: &[u8]) -> Result<&[u8], Cut>
     fields.sized8()
 }
 
-/// The tag of a descriptor that stands whole at the front, and what follows it.
-fn next_descriptor(bytes: &[u8]) -> Option<(u8, &[u8])>
-    ensures first { option_map (λ d. (d.0, d.1.now)) result ≡ controls.next_descriptor bytes.now }
-    ensures shorter { IfSome result (λ d. length d.1.now < length bytes.now) }
-{
-    match bytes {
-        [tag, size, following @ ..] if usize::from(*size) <= following.len() => {
-            Some((*tag, &following[usize::from(*size)..]))
-        }
-        _ => None,
-    }
-}
-
 /// Whether a whole descriptor of tag 0x09 (compressed_module_descriptor) stands in the user info.
 fn has_compression(user_info: &[u8]) -> bool
-    ensures { result ≡ controls.is_compressed user_info.now }
+    ensures { result ≡ list_any (λ d. d.0 == 0x09) (descriptors_in user_info.now) }
 {
-    let mut rest = user_info;
-    while let Some((tag, following)) = next_descriptor(rest) {
-        if tag == 0x09 {
+    let mut descriptors = Descriptors::new(user_info);
+    while let Some(descriptor) = descriptors.next() {
+        if descriptor.tag == 0x09 {
             return true;
         }
-        rest = following;
     }
     false
 }
@@ -125,7 +114,8 @@ fn line(fields: &mut Fields) -> Result<ModuleLine, Cut>
 }
 
 fn is_compressed(info: &[u8]) -> bool
-    ensures { result ≡ compressed_of (value_read (info_at (from_start info.now))) }
+    ensures { result
+        ≡ option_map_or controls.is_compressed (front_of controls.info info.now) false }
 {
     match user_info(info) {
         Ok(user_info) => has_compression(user_info),
@@ -146,7 +136,7 @@ fn lines(alloc: Global, fields: &mut Fields, count: u16) -> Result<Vec<ModuleLin
     Ok(modules)
 }
 
-#[tactic(auto, unfolding(oc_bytes::specs::Grammar::read, crate::specs::ControlReading::dii_at, crate::specs::ControlReading::opening_at))]
+#[tactic(auto, unfolding(oc_bytes::specs::Grammar::read, crate::specs::Controls::dii_at, crate::specs::Controls::opening_at))]
 fn dii_of(alloc: Global, payload: &[u8]) -> Result<Control, ControlFault>
     ensures exact { Gives view cause result (value_only (dii_at (from_start payload.now))) }
     ensures memory { IsErrOf result ControlFault.NoMemory
@@ -164,18 +154,17 @@ fn dii_of(alloc: Global, payload: &[u8]) -> Result<Control, ControlFault>
     }))
 }
 
-/// The private data of a DSI and its place.
-#[tactic(auto, unfolding(oc_bytes::specs::Grammar::read, oc_bytes::specs::Cursor::sized_at, crate::specs::ControlReading::private_at))]
-fn private_data<'a>(fields: &mut Fields<'a>) -> Result<(usize, &'a [u8]), Cut>
-    ensures exact { Gives {Y = (ℕ × List ℕ) × Cursor} (λ x. ((x.0, x.1.now), fields.new)) place_of
-        result (private_at fields.old) }
-    ensures inside { IfOk result (λ x. x.0 + length x.1.now ≤ usize.MAX) }
+/// The private data of a DSI, which end where the fields then stand.
+#[tactic(auto, unfolding(oc_bytes::specs::Grammar::read, oc_bytes::specs::Cursor::sized_at))]
+fn private_data<'a>(fields: &mut Fields<'a>) -> Result<&'a [u8], Cut>
+    ensures exact { Gives {Y = List ℕ × Cursor} (λ x. (x.now, fields.new)) place_of result
+        (read_by controls.private_data fields.old) }
+    ensures inside { IfOk result (λ x. length x.now ≤ fields.new.place) }
 {
     fields.take(20)?;
     fields.sized16()?;
     let size = fields.u16()?;
-    let private = fields.take(usize::from(size))?;
-    Ok((fields.place() - private.len(), private))
+    fields.take(usize::from(size))
 }
 
 /// The gateway's IOR inside the private data, which stand at this place of the message.
@@ -194,16 +183,16 @@ fn gateway(alloc: Global, private: &[u8], place: usize) -> Result<Ior, ControlFa
     }
 }
 
-#[tactic(auto, unfolding(crate::specs::ControlReading::dsi_at, crate::specs::ControlReading::frame_at))]
+#[tactic(auto, unfolding(crate::specs::Controls::dsi_at, crate::specs::Controls::private_at))]
 fn dsi_of(alloc: Global, payload: &[u8]) -> Result<Control, ControlFault>
     ensures exact { Gives view cause result (value_only (dsi_at (from_start payload.now))) }
     ensures memory { IsErrOf result ControlFault.NoMemory
-        → IsOkAnd (value_only (frame_at (from_start payload.now))) (λ f.
-        IsOkAnd (profile_count_at (from_start f.1.1)) (λ n. 0 < n.0)) }
+        → IsOkAnd (private_at (from_start payload.now)) (λ p.
+        IsOkAnd (profile_count_at (from_start p.0)) (λ n. 0 < n.0)) }
 {
     let (transaction, mut fields) = message(payload, 0x1006)?;
-    let (place, private) = private_data(&mut fields)?;
-    let gateway = gateway(alloc, private, place)?;
+    let private = private_data(&mut fields)?;
+    let gateway = gateway(alloc, private, fields.place() - private.len())?;
     Ok(Control::Dsi(Dsi {
         transaction: TransactionId(transaction),
         gateway,
@@ -226,8 +215,8 @@ fn control(alloc: Global, payload: &[u8]) -> Result<Control, ControlFault>
     ensures exact { Gives view cause result (read payload.now) }
     ensures memory_dsi { IsErrOf result ControlFault.NoMemory
         → message_id_of payload.now ≡ 0x1006
-        → IsOkAnd (value_only (frame_at (from_start payload.now))) (λ f.
-        IsOkAnd (profile_count_at (from_start f.1.1)) (λ n. 0 < n.0)) }
+        → IsOkAnd (private_at (from_start payload.now)) (λ p.
+        IsOkAnd (profile_count_at (from_start p.0)) (λ n. 0 < n.0)) }
     ensures memory_dii { IsErrOf result ControlFault.NoMemory
         → (message_id_of payload.now ≡ 0x1006 → ⊥)
         → IsOkAnd (opening_at (from_start payload.now)) (λ h. 0 < h.0.modules) }
@@ -258,8 +247,8 @@ pub fn decode(alloc: Global, payload: &[u8]) -> Result<Control, ControlFault>
     ensures exact { Gives view cause result (read payload.now) }
     ensures memory_dsi { IsErrOf result ControlFault.NoMemory
         → message_id_of payload.now ≡ 0x1006
-        → IsOkAnd (value_only (frame_at (from_start payload.now))) (λ f.
-        IsOkAnd (profile_count_at (from_start f.1.1)) (λ n. 0 < n.0)) }
+        → IsOkAnd (private_at (from_start payload.now)) (λ p.
+        IsOkAnd (profile_count_at (from_start p.0)) (λ n. 0 < n.0)) }
     ensures memory_dii { IsErrOf result ControlFault.NoMemory
         → (message_id_of payload.now ≡ 0x1006 → ⊥)
         → IsOkAnd (opening_at (from_start payload.now)) (λ h. 0 < h.0.modules) }

@@ -1,20 +1,28 @@
 ghost use Rattle.std.specs.Prelude.{◌≡◌, ◌≤◌, ◌<◌, ◌+◌, ◌*◌, ◌++◌, ◌∷◌, ◌↔◌, [], length, IfOk, OnOk, IsErrOf};
 ghost use Rattle.std.specs.List.{flat_map, All};
 ghost use Rattle.oc_bytes.specs.Numbers.{two_bytes, four_bytes};
+ghost use Rattle.oc_bytes.specs.Outcome.{MakesList};
 ghost use Rattle.dsi_dii.specs.Controls.{IsDsi, IsDii, view_dsi, view_dii, Reads, line_bytes, dii_head, dii_spelling, dsi_spelling, IsWrittenDii, LineFits};
 ghost use Rattle.ddb_block.specs.Message.{prefix_of};
 ghost use Rattle.ior_tap.specs.Iors as iors;
 ghost use Rattle.ior_tap.specs.declared.Location.{Location};
 ghost use Rattle.dsi_dii.specs.Spellings.{DiiSpellingsReadBack, DiiSpellingsHaveSize, DsiSpellingsReadBack, DsiSpellingsHaveSize};
 
-use crate::{BLOCK_SIZE, Dii, DiiFault, Dsi, MOST_MODULES, ModuleLine};
+use crate::{Dii, DiiFault, Dsi, MOST_MODULES, ModuleLine};
+use carousel_profile::{ASSOCIATION_TAG, BLOCK_SIZE, BLOCK_USE};
 use ddb_block::header_bytes;
 use oc_bytes::{NoMemory, Writer};
 use std::alloc::Global;
 
+/// The last byte of the use of the blocks' tap, whose first one is 0.
+const USE: u8 = BLOCK_USE as u8;
+
+/// The last byte of that tap's association tag, whose first one is 0.
+const TAG: u8 = ASSOCIATION_TAG as u8;
+
 /// The moduleInfo that is written: no time-outs, one tap for the blocks, no user info.
 static MODULE_INFO: [u8; 21] = [
-    0xFF, 0xFF, 0xFF, 0xFF, 0xFF, 0xFF, 0xFF, 0xFF, 0, 0, 0, 0, 1, 0, 0, 0, 0x17, 0, 1, 0, 0,
+    0xFF, 0xFF, 0xFF, 0xFF, 0xFF, 0xFF, 0xFF, 0xFF, 0, 0, 0, 0, 1, 0, 0, 0, USE, 0, TAG, 0, 0,
 ];
 
 /// The header that all download messages share, without an adaptation.
@@ -65,7 +73,7 @@ fn put_head(writer: &mut Writer, download: u32, modules: u16) -> Result<(), NoMe
 /// descriptor and no private data; each module's line has 29 bytes.
 pub fn encode_dii(alloc: Global, dii: &Dii) -> Result<Vec<u8>, DiiFault>
     requires { IsWrittenDii (view_dii dii.now) }
-    ensures spells { IfOk result (λ bytes. bytes.items ≡ dii_spelling (view_dii dii.now)) }
+    ensures spells { MakesList result (dii_spelling (view_dii dii.now)) }
     ensures reads { IfOk result (λ bytes. Reads bytes.items (IsDii (view_dii dii.now))) }
     ensures too_many { IsErrOf result DiiFault.TooMany
         ↔ (MOST_MODULES < length dii.now.modules.items) }

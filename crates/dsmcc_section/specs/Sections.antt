@@ -1,8 +1,8 @@
 -- Sections: what is read, the one spelling, and the first skip.
-use Rattle.std.specs.Prelude.{◌≡◌, ◌≢◌, ℕ, ◌+◌, ◌*◌, ◌/◌, ◌%◌, ◌-◌, ◌<◌, ◌≤◌, List, [], ◌∷◌, ◌++◌, length, take, drop, slice_index, Option, Some, None, Result, Ok, Err, nat_lt, ◌==◌, not, ◌||◌, ◌&&◌, if◌then◌else◌}
-use Rattle.oc_bytes.specs.Numbers.{two_bytes, four_bytes, number_of}
+use Rattle.std.specs.Prelude.{◌≡◌, ◌≢◌, ℕ, ◌+◌, ◌%◌, ◌≤◌, List, length, slice_index, Option, Some, None, Result, Ok, Err, nat_lt, ◌==◌, not, ◌||◌, ◌&&◌, if◌then◌else◌}
+use Rattle.oc_bytes.specs.Numbers.{section_length}
 use Rattle.section_crc.specs.Crc.{crc_of}
-use Rattle.dsmcc_section.specs.declared.TheConstants.{MOST_PAYLOAD}
+use Rattle.long_section.specs.Frames as frames
 use Rattle.dsmcc_section.specs.declared.Table.{Table}
 use Rattle.dsmcc_section.specs.declared.Table.TheVariants.{Control, Blocks}
 use Rattle.dsmcc_section.specs.declared.Section.{Section}
@@ -12,7 +12,6 @@ use Rattle.dsmcc_section.specs.declared.Skip.TheVariants as skips
 use Rattle.dsmcc_section.specs.declared.SectionFault.{SectionFault}
 use Rattle.dsmcc_section.specs.declared.SectionFault.TheVariants as faults
 use Rattle.oc_bytes.specs.declared.lengths.TheConstants.{MOST_LENGTH, MOST_SECTION}
-use Rattle.oc_bytes.specs.Lengths.{section_length}
 
 -- a section's fields, its payload as a list
 pub record Fields : Type 0 where
@@ -38,50 +37,40 @@ table_id Blocks = 0x3C
 abbrev pub table_with : ℕ → Result Table Skip
 table_with id = if id == 0x3B then Ok Control else (if id == 0x3C then Ok Blocks else Err skips.OtherTable)
 
--- the bytes after the length field
-abbrev pub length_of : Fields → ℕ
-length_of s = length s.payload + 9
-
--- the bytes of a section before its CRC, with these bits in the fields that reading passes over
-abbrev pub prefix_with : ℕ → ℕ → ℕ → Fields → List ℕ
-prefix_with private reserved version_reserved s =
-    (table_id s.table ∷ (128 + 64 * private + 16 * reserved + length_of s / 256) ∷ (length_of s % 256) ∷ [])
-    ++ two_bytes s.extension
-    ++ ((64 * version_reserved + 2 * s.version + 1) ∷ s.number ∷ s.last ∷ []) ++ s.payload
+-- what stands in the frame of a section
+abbrev pub frame : Fields → frames.Fields
+frame s = record {
+  extension = s.extension;
+  version = s.version;
+  number = s.number;
+  last = s.last;
+  body = s.payload;
+}
 
 -- fields that have a spelling
-pub record Fits (s : Fields) : Type 0 where
-  pub extension : s.extension < 65536
-  pub version : s.version < 32
-  pub number : s.number < 256
-  pub last : s.last < 256
-  pub payload : length s.payload ≤ MOST_PAYLOAD
+abbrev pub Fits : Fields → Type 0
+Fits s = frames.Fits MOST_LENGTH (frame s)
 
 -- the bytes are read as the section
-pub record Reads (bytes : List ℕ) (s : Fields) : Type 0 where
-  pub private : ℕ
-  pub reserved : ℕ
-  pub version_reserved : ℕ
-  pub crc : ℕ
-  pub bits : (private < 2) × (reserved < 4) × (version_reserved < 4)
-  pub fits : Fits s
-  pub whole : bytes ≡ prefix_with private reserved version_reserved s ++ four_bytes crc
-  pub right : crc_of bytes ≡ 0
+abbrev pub Reads : List ℕ → Fields → Type 0
+Reads bytes s = frames.IsFrame MOST_LENGTH (table_id s.table) bytes (frame s)
 
 -- the one spelling
 abbrev pub spelling : Fields → List ℕ
-spelling s = let front = prefix_with 0 3 3 s in front ++ four_bytes (crc_of front)
+spelling s = frames.spelling (table_id s.table) (frame s)
 
 -- the fields of a section of this table that takes all of the bytes
 abbrev pub fields_of : Table → List ℕ → Fields
-fields_of table bytes = record {
-  table = table;
-  extension = number_of (take 2 (drop 3 bytes));
-  version = slice_index bytes 5 / 2 % 32;
-  number = slice_index bytes 6;
-  last = slice_index bytes 7;
-  payload = take (length bytes - 12) (drop 8 bytes);
-}
+fields_of table bytes =
+    let f = frames.fields_of bytes in
+    record {
+      table = table;
+      extension = f.extension;
+      version = f.version;
+      number = f.number;
+      last = f.last;
+      payload = f.body;
+    }
 
 -- a frame that a stream of sections can be cut by: its length field counts the bytes after it, and it doesn't begin with stuffing
 pub record IsFramed (bytes : List ℕ) : Type 0 where

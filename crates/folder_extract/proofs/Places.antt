@@ -10,7 +10,8 @@ use Rattle.std.proofs.lemmas.Option.{slice_get_within, get_or_from_slice_get, sl
 use Rattle.path_tree.specs.Paths.{Bytes, PathNames}
 use Rattle.folder_store.specs.Walk.{text_below}
 use Rattle.path_tree.specs.Texts.{is_name}
-use Rattle.folder_extract.specs.Naming.{is_file_name, is_taken, place_text}
+use Rattle.folder_extract.specs.Naming.{is_file_name, is_taken}
+use Rattle.folder_extract.specs.Inner.Naming.{place_text}
 
 pub front_more : {X : Type 0} (xs : List X) (i : ℕ) (x : X) → slice_get xs i ≡ Some x → take (i + 1) xs ≡ take i xs ++ x ∷ []
 front_more {X} xs i x e = take_more xs i x (slice_get_within xs i x e) ∙ ap (λ (y : X). take i xs ++ y ∷ []) (get_or_from_slice_get xs i x x e)

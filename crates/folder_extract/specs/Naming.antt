@@ -1,10 +1,9 @@
 -- Which names of a carousel can be those of files, and where a path stands in a folder of the outside. It is this project's own rule.
-use Rattle.std.specs.Prelude.{◌-◌, Bool, not, ◌&&◌, ◌||◌, length, take, Option, Some, None, codes, if◌then◌else◌}
+use Rattle.std.specs.Prelude.{◌-◌, Bool, not, ◌&&◌, ◌||◌, length, take, codes}
 use Rattle.std.specs.List.{list_all}
 use Rattle.std.specs.Str.{is_utf8}
 use Rattle.path_tree.specs.Paths.{Bytes, PathNames, same_name}
 use Rattle.path_tree.specs.Texts.{is_name}
-use Rattle.folder_store.specs.Walk.{text_below}
 
 -- it names the folder itself or the one above, or a file that is being written
 abbrev pub is_taken : Bytes → Bool
@@ -20,7 +19,3 @@ can_stand p = list_all is_file_name p
 -- the names above a path's last one
 abbrev pub names_above : PathNames → PathNames
 names_above p = take (length p - 1) p
-
--- the path text of the outside, where each name can be that of a file
-abbrev pub place_text : Bytes → PathNames → Option Bytes
-place_text folder p = if can_stand p then Some (text_below folder p) else None

@@ -2,13 +2,12 @@
 
 ghost use Rattle.std.specs.Prelude.{◌≡◌, ◌≤◌, ◌∷◌, ◌++◌, [], true, codes, length, if◌then◌else◌, IfOk, OnOk};
 ghost use Rattle.std.specs.List.{list_all};
-ghost use Rattle.oc_bytes.specs.Outcome.{Rose};
-ghost use Rattle.path_resolver.specs.Resolving.{answer_of};
-ghost use Rattle.path_resolver.specs.Shots.{held_of};
+ghost use Rattle.oc_bytes.specs.Outcome.{Faulted};
+ghost use Rattle.path_resolver.specs.Shots.{answers_of};
 ghost use Rattle.path_tree.specs.Texts.{is_name};
 ghost use Rattle.folder_store.specs.Folders.{AFile, AFolder};
 ghost use Rattle.folder_store.specs.Walk.{text_below};
-ghost use Rattle.shell_streams.specs.Sending.{Puts};
+ghost use Rattle.shell_streams.specs.Sending.{Puts, IsFlushed};
 ghost use Rattle.shell_words.specs.Texts.{answered_line, is_found};
 ghost use Rattle.folder_extract.specs.Naming.{can_stand};
 ghost use Rattle.folder_extract.specs.Telling.{entry_line, is_whole, is_whole_answer, line_for, listed, passed_of, told_of, unnamed_lines};
@@ -57,13 +56,12 @@ pub fn extract<T: Store, O: Output>(
     out: &mut O,
 ) -> Result<Extracted, OutputFault>
     ensures part { WrotePart (T.tree store.old) (T.tree store.new)
-        (entries_for folder.now (answer_of (held_of shot.now))
-        (listed (answer_of (held_of shot.now)))) }
-    ensures ends { Ends folder.now (answer_of (held_of shot.now)) result (T.tree store.old)
-        (T.tree store.new) (Rose (T.faults store.old) (T.faults store.new)) (O.state out.old)
+        (entries_for folder.now (answers_of shot.now) (listed (answers_of shot.now))) }
+    ensures ends { Ends folder.now (answers_of shot.now) result (T.tree store.old)
+        (T.tree store.new) (Faulted T.faults store.old store.new) (O.state out.old)
         (O.state out.new) }
     ensures later { T.faults store.old ≤ T.faults store.new }
-    ensures empty { OnOk result ((O.state out.new).pending ≡ []) }
+    ensures empty { OnOk result (IsFlushed (O.state out.new)) }
 {
     let listing = listed_paths(alloc, shot)?;
     let mut all = listing.whole;
@@ -102,14 +100,13 @@ fn extract_path<T: Store, O: Output>(
     out: &mut O,
 ) -> Result<Extracted, OutputFault>
     ensures takes { Takes (text_below folder.now path.now)
-        (entries_at folder.now (answer_of (held_of shot.now)) path.now)
-        (line_for (answer_of (held_of shot.now)) path.now)
-        (is_whole (answer_of (held_of shot.now)) path.now) result (T.tree store.old)
-        (T.tree store.new) (Rose (T.faults store.old) (T.faults store.new)) (O.state out.old)
-        (O.state out.new) }
+        (entries_at folder.now (answers_of shot.now) path.now)
+        (line_for (answers_of shot.now) path.now) (is_whole (answers_of shot.now) path.now) result
+        (T.tree store.old) (T.tree store.new) (Faulted T.faults store.old store.new)
+        (O.state out.old) (O.state out.new) }
     ensures fails { IfOk result (λ end.
         end ≡ Extracted.Failed
-        → (can_stand path.now ≡ true) × (is_found (answer_of (held_of shot.now) path.now) ≡ true)) }
+        → (can_stand path.now ≡ true) × (is_found (answers_of shot.now path.now) ≡ true)) }
     ensures later { T.faults store.old ≤ T.faults store.new }
 {
     let Some(text) = place_text(alloc, folder, path)? else {
@@ -139,7 +136,7 @@ fn extract_answer<T: Store, O: Output>(
 ) -> Result<Extracted, OutputFault>
     ensures takes { Takes text.now (entries_of text.now answer.now) (told_of path.now answer.now)
         (is_whole_answer answer.now) result (T.tree store.old) (T.tree store.new)
-        (Rose (T.faults store.old) (T.faults store.new)) (O.state out.old) (O.state out.new) }
+        (Faulted T.faults store.old store.new) (O.state out.old) (O.state out.new) }
     ensures fails { IfOk result (λ end. end ≡ Extracted.Failed → is_found answer.now ≡ true) }
     ensures later { T.faults store.old ≤ T.faults store.new }
 {
@@ -176,7 +173,7 @@ fn write_file<T: Store, O: Output>(
 ) -> Result<Extracted, OutputFault>
     ensures takes { Takes text.now ((text.now, AFile file.now) ∷ [])
         (entry_line (codes "file") path.now (length file.now)) true result (T.tree store.old)
-        (T.tree store.new) (Rose (T.faults store.old) (T.faults store.new)) (O.state out.old)
+        (T.tree store.new) (Faulted T.faults store.old store.new) (O.state out.old)
         (O.state out.new) }
     ensures later { T.faults store.old ≤ T.faults store.new }
 {
@@ -201,7 +198,7 @@ fn write_folder<T: Store, O: Output>(
     ensures takes { Takes text.now ((text.now, AFolder) ∷ [])
         (entry_line (codes "folder") path.now (length names.now)
         ++ unnamed_lines path.now names.now) (list_all is_name names.now) result
-        (T.tree store.old) (T.tree store.new) (Rose (T.faults store.old) (T.faults store.new))
+        (T.tree store.old) (T.tree store.new) (Faulted T.faults store.old store.new)
         (O.state out.old) (O.state out.new) }
     ensures later { T.faults store.old ≤ T.faults store.new }
 {

@@ -5,7 +5,8 @@ ghost use Rattle.std.specs.List.{list_any};
 ghost use Rattle.std.specs.Option.{option_copied};
 ghost use Rattle.std.specs.String.{string_bytes};
 ghost use Rattle.path_tree.specs.Texts.{is_name, is_zero_or_slash};
-ghost use Rattle.folder_extract.specs.Naming.{can_stand, is_file_name, is_taken as taken, names_above, place_text as text_of_place};
+ghost use Rattle.folder_extract.specs.Naming.{can_stand, is_file_name, is_taken as taken, names_above};
+ghost use Rattle.folder_extract.specs.Inner.Naming.{place_text as text_of_place};
 
 use folder_store::PART_NAME;
 use oc_bytes::NoMemory;

@@ -2,7 +2,7 @@
 
 ghost use Rattle.std.specs.Prelude.{◌≡◌, ◌++◌, ◌∷◌, [], IfOk, codes};
 ghost use Rattle.std.specs.List.{list_all};
-ghost use Rattle.std.specs.String.{string_bytes};
+ghost use Rattle.oc_bytes.specs.Outcome.{Spells};
 ghost use Rattle.path_tree.specs.Texts.{is_name, text_of};
 ghost use Rattle.shell_streams.specs.Sending.{Puts};
 ghost use Rattle.shell_words.specs.Texts.{answered_line, line as line_of};
@@ -32,7 +32,7 @@ pub(crate) fn put_entry<O: Output>(
 }
 
 fn entry_text(alloc: Global, kind: &str, path: &Path, number: usize) -> Result<String, NoMemory>
-    ensures { IfOk result (λ text. string_bytes text ≡ entry_line kind.now path.now number) }
+    ensures { Spells result (entry_line kind.now path.now number) }
 {
     let place = path.print()?;
     let place = place.as_str();
@@ -92,7 +92,7 @@ pub(crate) fn put_unnamed<O: Output>(
 
 /// The text of a path and one name more, whatever its bytes are.
 fn text_below(alloc: Global, path: &Path, name: &[u8]) -> Result<String, NoMemory>
-    ensures { IfOk result (λ text. string_bytes text ≡ text_of (path.now ++ name.now ∷ [])) }
+    ensures { Spells result (text_of (path.now ++ name.now ∷ [])) }
 {
     let mut text = if path.len() == 0 {
         String::new(alloc)
@@ -115,7 +115,7 @@ fn put_passed<O: Output>(alloc: Global, text: &str, out: &mut O) -> Result<(), O
 }
 
 fn passed_text(alloc: Global, text: &str) -> Result<String, NoMemory>
-    ensures { IfOk result (λ line. string_bytes line ≡ line_of (codes "passed " ++ text.now)) }
+    ensures { Spells result (line_of (codes "passed " ++ text.now)) }
 {
     format!(in alloc; "passed {text}\n")
 }

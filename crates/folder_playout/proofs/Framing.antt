@@ -5,9 +5,10 @@ use Rattle.std.specs.Option.{unwrap_or}
 use Rattle.std.proofs.lemmas.Bool.{eqb-true}
 use Rattle.std.proofs.lemmas.List.{get_or_append_left, get_or-append-add, get_or-map, length-append, length-map, length-take}
 use Rattle.std.proofs.lemmas.List.Elements.{All-cons, All-head, All-map, All-nil, All-tail}
+use Rattle.carousel_profile.specs.declared.TheConstants.{BLOCK_SIZE}
 use Rattle.path_tree.specs.Paths.{Bytes}
+use Rattle.biop_object.specs.declared.reading.TheConstants.{GATEWAY}
 use Rattle.biop_object.specs.Names.{Layout, module_in}
-use Rattle.biop_object.specs.Objects.{gateway_kind}
 use Rattle.ddb_block.specs.Blocks as ddb
 use Rattle.dsi_dii.specs.Controls.{DiiFields, dii_spelling, dsi_spelling}
 use Rattle.dsi_dii.specs.declared.ModuleLine.{ModuleLine}
@@ -47,29 +48,29 @@ control_fits extension payload lt le = record {
   version = lit< tt;
   number = lit< tt;
   last = lit< tt;
-  payload = le;
+  body = omega (arith, le);
 }
 
-dsi_fits : (carousel : ℕ) → Sizes → sections.Fits (control_section 0 (dsi_spelling 0x80000000 gateway_kind (gateway_location carousel)))
+dsi_fits : (carousel : ℕ) → Sizes → sections.Fits (control_section 0 (dsi_spelling 0x80000000 GATEWAY (gateway_location carousel)))
 dsi_fits carousel sizes =
-    control_fits 0 (dsi_spelling 0x80000000 gateway_kind (gateway_location carousel)) (lit< tt)
-    (omega (arith, sizes.dsi 0x80000000 gateway_kind (gateway_location carousel) (record { form = refl; four = refl; key = refl; listed = (lit≤ tt, lit≤ tt) })))
+    control_fits 0 (dsi_spelling 0x80000000 GATEWAY (gateway_location carousel)) (lit< tt)
+    (omega (arith, sizes.dsi 0x80000000 GATEWAY (gateway_location carousel) (record { form = refl; four = refl; key = refl; listed = (lit≤ tt, lit≤ tt) })))
 
 dii_fits : (extension : ℕ) (d : DiiFields) → Sizes → extension < 65536 → length d.modules ≤ 139 → sections.Fits (control_section extension (dii_spelling d))
 dii_fits extension d sizes lt few = control_fits extension (dii_spelling d) lt (omega (arith, sizes.dii d))
 
-short_length : (xs : Bytes) → length (take 4066 xs) ≤ 4066
-short_length xs = omega (arith, length-take 4066 xs)
+short_length : (xs : Bytes) → length (take BLOCK_SIZE xs) ≤ BLOCK_SIZE
+short_length xs = omega (arith, length-take BLOCK_SIZE xs)
 
 block_fits : (carousel m version b : ℕ) (bytes : Bytes) → Sizes → m < 65536 → sections.Fits (block_section carousel m version b bytes)
 block_fits carousel m version b bytes sizes lt =
-    let block : ddb.Block = record { download = carousel; module_id = m; version = version; number = b; bytes = ddb.block_of bytes 4066 b } in
+    let block : ddb.Block = record { download = carousel; module_id = m; version = version; number = b; bytes = ddb.block_of bytes BLOCK_SIZE b } in
     record {
       extension = lt;
       version = omega arith;
       number = omega arith;
       last = omega arith;
-      payload = omega (arith, sizes.block block, short_length (drop (b * 4066) bytes));
+      body = omega (arith, sizes.block block, short_length (drop (b * BLOCK_SIZE) bytes));
     }
 
 small : (n : ℕ) → n % 65536 < 65536
@@ -87,7 +88,7 @@ layout_is : (carousel : ℕ) (ls : List Layout) (ts : _) (g : ℕ) → Lawful ca
 layout_is carousel ls ts g lawful lt = at_layout IsLayout ls g lawful.maps lt
 
 item_framed : (carousel : ℕ) (ls : List Layout) (ts : _) (g : ℕ) → Sizes → Lawful carousel ls ts → (item : Item) → IsItem ls g item → sections.IsFramed (section_in carousel ls g item)
-item_framed carousel ls ts g sizes lawful Dsi item = sizes.framed (control_section 0 (dsi_spelling 0x80000000 gateway_kind (gateway_location carousel))) (dsi_fits carousel sizes)
+item_framed carousel ls ts g sizes lawful Dsi item = sizes.framed (control_section 0 (dsi_spelling 0x80000000 GATEWAY (gateway_location carousel))) (dsi_fits carousel sizes)
 item_framed carousel ls ts g sizes lawful (Dii j) item =
     sizes.framed (control_section (dii_transaction g j % 65536) (dii_spelling (dii_in carousel ls g j)))
     (dii_fits (dii_transaction g j % 65536) (dii_in carousel ls g j) sizes (small (dii_transaction g j)) (dii_few carousel ls g j (layout_is carousel ls ts g lawful item.0) item.2))

@@ -4,6 +4,7 @@ ghost use Rattle.std.specs.Prelude.{◌≡◌, ◌++◌, ◌∷◌, [], IfOk, co
 ghost use Rattle.std.specs.List.{flat_map};
 ghost use Rattle.std.specs.Option.{is_none, option_map, unwrap_or};
 ghost use Rattle.std.specs.String.{string_bytes};
+ghost use Rattle.oc_bytes.specs.Outcome.{Spells};
 ghost use Rattle.folder_playout.specs.Lines.{commit_words, cycle_line, difference_words, notice_line, refused_words, with_path};
 ghost use Rattle.folder_playout.specs.Notices.{Began, kept_notices};
 ghost use Rattle.folder_playout.specs.Readings.{is_no_memory};
@@ -27,23 +28,21 @@ pub fn began_text(
     cycle: u32,
     difference: Difference,
 ) -> Result<String, NoMemory>
-    ensures { IfOk result (λ text.
-        string_bytes text ≡ notice_line (Began number cycle difference)) }
+    ensures { Spells result (notice_line (Began number cycle difference)) }
 {
     let words = difference_words(alloc, difference)?;
     began_line(alloc, number, cycle, &words)
 }
 
 fn began_line(alloc: Global, number: u64, cycle: u32, words: &str) -> Result<String, NoMemory>
-    ensures { IfOk result (λ text.
-        string_bytes text ≡ cycle_line (codes "generation") number cycle words.now) }
+    ensures { Spells result (cycle_line (codes "generation") number cycle words.now) }
 {
     format!(in alloc; "generation {number} cycle {cycle} {words}\n")
 }
 
 /// How much is fetched again.
 fn difference_words(alloc: Global, difference: Difference) -> Result<String, NoMemory>
-    ensures { IfOk result (λ text. string_bytes text ≡ difference_words difference) }
+    ensures { Spells result (difference_words difference) }
 {
     let files = difference.files;
     let modules = difference.modules;
@@ -76,8 +75,7 @@ pub fn kept_text(
 }
 
 fn kept_line(alloc: Global, number: u64, cycle: u32, words: &str) -> Result<String, NoMemory>
-    ensures { IfOk result (λ text.
-        string_bytes text ≡ cycle_line (codes "kept") number cycle words.now) }
+    ensures { Spells result (cycle_line (codes "kept") number cycle words.now) }
 {
     format!(in alloc; "kept {number} cycle {cycle} {words}\n")
 }
@@ -88,8 +86,7 @@ fn refused_words(
     fault: &TreeFault,
     path: &Option<String>,
 ) -> Result<String, NoMemory>
-    ensures { IfOk result (λ text.
-        string_bytes text ≡ refused_words fault.now (option_map string_bytes path.now)) }
+    ensures { Spells result (refused_words fault.now (option_map string_bytes path.now)) }
 {
     match fault {
         TreeFault::TooDeep => with_path(alloc, "too-deep", path),
@@ -100,8 +97,7 @@ fn refused_words(
 
 /// A word, and the path where there is one.
 fn with_path(alloc: Global, word: &str, path: &Option<String>) -> Result<String, NoMemory>
-    ensures { IfOk result (λ text.
-        string_bytes text ≡ with_path word.now (option_map string_bytes path.now)) }
+    ensures { Spells result (with_path word.now (option_map string_bytes path.now)) }
 {
     match path {
         Some(path) => format!(in alloc; "{word} {path}"),
@@ -111,8 +107,7 @@ fn with_path(alloc: Global, word: &str, path: &Option<String>) -> Result<String,
 
 /// The text of a commit's refusal. A file that is too large is named by its path, where that is known.
 fn commit_words(alloc: Global, refusal: &Refusal, path: &Option<String>) -> Result<String, NoMemory>
-    ensures { IfOk result (λ text.
-        string_bytes text ≡ commit_words refusal.now (option_map string_bytes path.now)) }
+    ensures { Spells result (commit_words refusal.now (option_map string_bytes path.now)) }
 {
     match (refusal, path) {
         (Refusal::Edit(_, EditFault::FileTooLarge), Some(path)) => {

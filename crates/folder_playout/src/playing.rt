@@ -1,5 +1,5 @@
 ghost use Rattle.std.specs.Prelude.{◌≡◌, ◌+◌, ◌^◌, ◌<◌, ◌≤◌, [], ◌++◌, List, ℕ};
-ghost use Rattle.shell_streams.specs.Sending.{OutputState};
+ghost use Rattle.shell_streams.specs.Sending.{OutputState, IsFlushed};
 ghost use Rattle.folder_playout.specs.Notices.{Notice};
 ghost use Rattle.folder_playout.specs.Playing.{Airs, Sent};
 ghost use Rattle.folder_playout.specs.Inner.Standing.{Begins, IsNext, IsPlaying, Takes, Turns, told_next};
@@ -82,7 +82,7 @@ pub fn keep_on_air<T: Trees, N: Notices, O: Output>(
 ) -> Result<(), AirFault>
     requires in_range { pid < 8192 }
     requires some { 1 ≤ cycles }
-    requires pending { (O.state out.old).pending ≡ [] }
+    requires pending { IsFlushed (O.state out.old) }
     requires unread { T.answered trees.old trees.old [] }
     requires untold { N.told notices.old notices.old [] }
     ensures { Airs (record { pid = pid; carousel = carousel; weights = weigh.now.weights }) cycles
@@ -110,7 +110,7 @@ fn begin<T: Trees, N: Notices, O: Output>(
     out: &mut O,
 ) -> Result<Playout, AirFault>
     requires in_range { pid < 8192 }
-    requires pending { (O.state out.old).pending ≡ [] }
+    requires pending { IsFlushed (O.state out.old) }
     requires unread { T.answered trees.old trees.old [] }
     requires untold { N.told notices.old notices.old [] }
     ensures { (cycles : ℕ)

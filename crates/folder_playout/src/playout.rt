@@ -1,8 +1,8 @@
-ghost use Rattle.std.specs.Prelude.{◌≡◌, ◌<◌, ◌≤◌, [], ℕ, true, false, IfOk, OnOk};
+ghost use Rattle.std.specs.Prelude.{◌≡◌, ◌<◌, ◌≤◌, ℕ, true, false, IfOk, OnOk};
 ghost use Rattle.std.specs.List.{All};
 ghost use Rattle.generation.specs.Layouts.{first_of, next_of};
 ghost use Rattle.section_stream.specs.Packing.{IsSectionLike};
-ghost use Rattle.shell_streams.specs.Sending.{OutputState, HasPut, Puts};
+ghost use Rattle.shell_streams.specs.Sending.{OutputState, HasPut, Puts, IsFlushed};
 ghost use Rattle.dsi_dii.specs.declared.TheConstants.{LAST_GENERATION};
 ghost use Rattle.folder_playout.specs.OnAir.{OnAir, begun, groups_of, air_bytes, same_tree, with_cycle, with_tree};
 ghost use Rattle.folder_playout.specs.Notices.{difference_of};
@@ -109,7 +109,7 @@ impl Playout {
         ensures stands { OnOk result ((pid : ℕ) (s : OnAir)
             → StandsFor self.old pid s
             → StandsFor self.new pid (with_cycle weigh.now.weights s)) }
-        ensures empty { OnOk result ((O.state out.new).pending ≡ []) }
+        ensures empty { OnOk result (IsFlushed (O.state out.new)) }
     {
         self.sender.send_cycle(&self.generation, weigh, out)?;
         out.flush()
@@ -122,7 +122,7 @@ impl Playout {
             → All (All IsSectionLike) (groups_of s)
             → HasPut start (O.state out.old) (given_bytes pid s)
             → Puts result start (O.state out.new) (air_bytes pid s) }
-        ensures empty { OnOk result ((O.state out.new).pending ≡ []) }
+        ensures empty { OnOk result (IsFlushed (O.state out.new)) }
     {
         self.sender.finish(out)?;
         out.flush()

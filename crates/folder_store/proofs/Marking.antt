@@ -17,7 +17,7 @@ use Rattle.folder_store.specs.declared.reading.ReadTree.{ReadTree}
 use Rattle.folder_store.specs.declared.reading.ReadTree.TheVariants as refusals
 use Rattle.folder_store.specs.Folders.{Entry, AFile, AFolder, AnOther, FolderTree, IsRead, entries_below, entry_at, kind_of, view_entry}
 use Rattle.folder_store.specs.Walk.{Met, WalkFault, met_below, sort_entries, walk_edits, onto, size}
-use Rattle.folder_store.specs.Gathering.{IsSortedListing, after, broken_rule}
+use Rattle.folder_store.specs.Inner.Gathering.{IsSortedListing, after, broken_rule}
 use Rattle.folder_store.specs.Surveys.{Stands, Mark, Left, Broken, Large, Look, first_of, large_mark, look_from, marks_at, marks_below, marks_past, survey_of}
 use Rattle.folder_store.specs.Inner.Sighting.{HasRoom, Tells, marks_one, with_file}
 use Rattle.folder_store.proofs.Walking.{Found, Goes as WalkGoes, after_all, content_is, one_more, room_left, walked_file, whole}

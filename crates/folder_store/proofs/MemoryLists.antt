@@ -13,7 +13,8 @@ use Rattle.folder_store.specs.declared.folders.EntryKind.{EntryKind}
 use Rattle.folder_store.specs.declared.folders.EntryKind.TheVariants as kinds
 use Rattle.folder_store.specs.declared.folders.FolderEntry.{FolderEntry}
 use Rattle.folder_store.specs.Folders.{view_entry, Entry, AFile, AFolder, after_prefix, is_name_text, named_by, kind_of, entries_below}
-use Rattle.folder_store.specs.Memory.{entries_in, folders_above, file_name, folder_name, ends_in_slash, has_text, with_text, each_once, tree_of, files_below, folders_below, with_folder, with_folder_of}
+use Rattle.folder_store.specs.Memory.{entries_in, folders_above, ends_in_slash, has_text, with_text, each_once, tree_of}
+use Rattle.folder_store.specs.Inner.Memory.{file_name, folder_name, files_below, folders_below, with_folder, with_folder_of}
 use Rattle.folder_store.proofs.MemoryTexts.{true_or_false, behind_is, name_behind, folder_right_below}
 
 fold-append : {A B : Type 0} (f : B → A → B) (a : B) (xs ys : List A) → fold f a (xs ++ ys) ≡ fold f (fold f a xs) ys

@@ -6,7 +6,8 @@ use denote.Ref.{Bor}
 use Rattle.std.proofs.lemmas.Bool.Decides.{nat_tests}
 use Rattle.path_tree.specs.Paths.{Bytes, same_name}
 use Rattle.folder_store.specs.Folders.{after_prefix, is_name_text}
-use Rattle.folder_store.specs.Memory.{folders_above, file_name, folder_name, is_slash}
+use Rattle.folder_store.specs.Memory.{folders_above}
+use Rattle.folder_store.specs.Inner.Memory.{file_name, folder_name, is_slash}
 
 pub true_or_false : (b : Bool) → (b ≡ true) ⊎ (b ≡ false)
 true_or_false true = inl refl

@@ -15,7 +15,8 @@ use Rattle.path_tree.specs.Paths.{Bytes, same_name}
 use Rattle.path_tree.proofs.CallerLemmas.{same_name-flips, same_name-is, same_name-refl}
 use Rattle.folder_store.specs.declared.folders.EntryKind.{EntryKind}
 use Rattle.folder_store.specs.Folders.{view_entry, Entry, FolderTree, entry_at, after_prefix, is_name_text, named_by, entries_below, is_folder_at, content_of, IsListed, IsRead, IsFolderTree}
-use Rattle.folder_store.specs.Memory.{entries_in, folders_above, ends_in_slash, has_text, with_text, each_once, tree_of, all_apart, AreEntries, files_below, folders_below}
+use Rattle.folder_store.specs.Memory.{entries_in, folders_above, ends_in_slash, has_text, with_text, each_once, tree_of, all_apart, AreEntries}
+use Rattle.folder_store.specs.Inner.Memory.{files_below, folders_below}
 use Rattle.folder_store.proofs.MemoryTexts.{true_or_false, behind_is, behind_some, stands_in, stands_higher}
 use Rattle.folder_store.proofs.MemoryLists.{Kept, Entries, view, a_file, a_folder, below, is_file, folder_texts, below-is}
 

@@ -18,7 +18,7 @@ use Rattle.folder_store.specs.declared.folders.EntryKind.{EntryKind}
 use Rattle.folder_store.specs.declared.folders.FolderEntry.{FolderEntry}
 use Rattle.folder_store.specs.Folders.{Entry, FolderTree, IsListed, entries_below, entry_at, kind_of, view_entry}
 use Rattle.folder_store.specs.Walk.{sort_entries}
-use Rattle.folder_store.specs.Gathering.{IsSortedListing}
+use Rattle.folder_store.specs.Inner.Gathering.{IsSortedListing}
 use Rattle.folder_store.proofs.Naming.{In, in_from, contains_from, all_in, each_in, in_map, from_map, names, AreDistinct, distinct_from_pairs, stands}
 
 -- ---- the order of names

@@ -19,7 +19,7 @@ use Rattle.folder_store.specs.declared.reading.ReadTree.{ReadTree}
 use Rattle.folder_store.specs.declared.reading.ReadTree.TheVariants as refusals
 use Rattle.folder_store.specs.Folders.{Entry, AFile, AFolder, AnOther, FolderTree, IsRead, MayFail, content_of, entries_below, entry_at, kind_of, view_entry}
 use Rattle.folder_store.specs.Walk.{Met, Walked, WalkFault, IsTooDeep, IsBadName, met_at, met_or_made, met_past, met_below, edits_of, onto, walk_edits, size, sort_entries}
-use Rattle.folder_store.specs.Gathering.{IsSortedListing, Walks, after, broken_rule, going_on, kind_at, met_one}
+use Rattle.folder_store.specs.Inner.Gathering.{IsSortedListing, Walks, after, broken_rule, going_on, kind_at, met_one}
 
 -- all this was met, and no rule was broken
 abbrev pub Goes : List Met → List Edit → ℕ → List Edit → ℕ → Type 0

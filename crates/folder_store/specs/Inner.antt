@@ -1,2 +1,4 @@
 -- What private functions and invariants are stated in; no public contract names it.
+pub mod Gathering
+pub mod Memory
 pub mod Sighting

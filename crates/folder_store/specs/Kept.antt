@@ -1,5 +1,5 @@
 -- What folders in memory hold, and which of their calls fail.
-use Rattle.std.specs.Prelude.{ℕ, List, Option}
+use Rattle.std.specs.Prelude.{ℕ, List, Option, Contains}
 use Rattle.std.specs.Option.{option_map}
 use Rattle.std.specs.String.{string_bytes}
 use Rattle.path_tree.specs.Paths.{Bytes}
@@ -25,3 +25,7 @@ calls_failed f = f.failures
 -- the path text of the last call that failed, where there was memory to keep it
 abbrev pub last_refused : MemFolders → Option Bytes
 last_refused f = option_map string_bytes f.refused
+
+-- the next call is one of those that fail
+abbrev pub NextCallFails : MemFolders → Type 0
+NextCallFails f = Contains (failing_calls f) (calls_made f)

@@ -1,5 +1,5 @@
 -- What a store in memory has, and which of its calls fail.
-use Rattle.std.specs.Prelude.{ℕ, List}
+use Rattle.std.specs.Prelude.{ℕ, List, Contains}
 use Rattle.folder_store.specs.Folders.{FolderTree}
 use Rattle.folder_store.specs.Stores.{tree_stored}
 use Rattle.folder_store.specs.declared.mem_store.MemStore.{MemStore}
@@ -18,3 +18,7 @@ store_calls s = s.calls.made
 -- how many calls failed as planned
 abbrev pub store_faults : MemStore → ℕ
 store_faults s = s.calls.failed
+
+-- the next call is one of those that fail
+abbrev pub NextStoreFails : MemStore → Type 0
+NextStoreFails s = Contains (store_plan s) (store_calls s)

@@ -1,8 +1,8 @@
-ghost use Rattle.std.specs.Prelude.{◌≡◌, ◌≤◌, ℕ, Bool, Some, Option, map, true, false, None, is_some, IfOk, IsErrOf};
+ghost use Rattle.std.specs.Prelude.{◌≡◌, ◌≤◌, ℕ, Bool, Option, map, true, false, None, is_some, IfOk, IsErrOf};
 ghost use Rattle.std.specs.Option.{option_map};
 ghost use Rattle.std.specs.String.{string_bytes};
-ghost use Rattle.oc_bytes.specs.Outcome.{Rose};
-ghost use Rattle.folder_store.specs.Folders.{IsRefused};
+ghost use Rattle.oc_bytes.specs.Outcome.{Faulted};
+ghost use Rattle.folder_store.specs.Folders.{IsRefused, IsNoFolder, WhereTold};
 
 use oc_bytes::NoMemory;
 use std::alloc::{AllocError, AllocFailed, Global};
@@ -76,21 +76,14 @@ pub trait Folders {
     fn list(&mut self, alloc: Global, path: &str) -> Result<Vec<FolderEntry>, FolderFault>
         ensures same { tree self.new ≡ tree self.old }
         ensures entries { IfOk result (λ es.
-            (t : FolderTree)
-            → tree self.old ≡ Some t
-            → IsListed t path.now (map view_entry es.items)) }
+            WhereTold (tree self.old) (λ t. IsListed t path.now (map view_entry es.items))) }
         ensures later { faults self.old ≤ faults self.new }
         ensures cause { IsErrOf result FolderFault.Failed
-            → MayFail (Rose (faults self.old) (faults self.new)) (tree self.old) (λ t.
-            is_folder_at t path.now ≡ false) }
-        ensures owed { (t : FolderTree)
-            → tree self.old ≡ Some t
-            → is_folder_at t path.now ≡ true
-            → strayed self.new ≡ strayed self.old }
-        ensures strays { (t : FolderTree)
-            → tree self.old ≡ Some t
-            → is_folder_at t path.now ≡ false
-            → strayed self.new ≡ true }
+            → MayFail (Faulted faults self.old self.new) (tree self.old) (IsNoFolder path.now) }
+        ensures owed { WhereTold (tree self.old) (λ t.
+            is_folder_at t path.now ≡ true → strayed self.new ≡ strayed self.old) }
+        ensures strays { WhereTold (tree self.old) (λ t.
+            is_folder_at t path.now ≡ false → strayed self.new ≡ true) }
         ensures failed { IsErrOf result FolderFault.Failed → IsRefused (refused self.new) path.now }
         ensures kept { (IsErrOf result FolderFault.Failed → ⊥)
             → refused self.new ≡ refused self.old };
@@ -99,19 +92,16 @@ pub trait Folders {
     fn read(&mut self, alloc: Global, path: &str, most: usize) -> Result<Vec<u8>, FolderFault>
         ensures same { tree self.new ≡ tree self.old }
         ensures bytes { IfOk result (λ bs.
-            (t : FolderTree) → tree self.old ≡ Some t → IsRead t path.now most bs.items) }
+            WhereTold (tree self.old) (λ t. IsRead t path.now most bs.items)) }
         ensures later { faults self.old ≤ faults self.new }
         ensures cause { IsErrOf result FolderFault.Failed
-            → MayFail (Rose (faults self.old) (faults self.new)) (tree self.old) (λ t.
+            → MayFail (Faulted faults self.old self.new) (tree self.old) (λ t.
             content_of (entry_at t path.now) ≡ None) }
-        ensures owed { (t : FolderTree)
-            → tree self.old ≡ Some t
-            → is_some (content_of (entry_at t path.now)) ≡ true
-            → strayed self.new ≡ strayed self.old }
-        ensures strays { (t : FolderTree)
-            → tree self.old ≡ Some t
-            → content_of (entry_at t path.now) ≡ None
-            → strayed self.new ≡ true }
+        ensures owed { WhereTold (tree self.old) (λ t.
+            is_some (content_of (entry_at t path.now)) ≡ true
+            → strayed self.new ≡ strayed self.old) }
+        ensures strays { WhereTold (tree self.old) (λ t.
+            content_of (entry_at t path.now) ≡ None → strayed self.new ≡ true) }
         ensures failed { IsErrOf result FolderFault.Failed → IsRefused (refused self.new) path.now }
         ensures kept { (IsErrOf result FolderFault.Failed → ⊥)
             → refused self.new ≡ refused self.old };

@@ -1,7 +1,7 @@
 ghost use Rattle.std.specs.Prelude.{◌≡◌, ◌≤◌, ◌+◌, ◌++◌, ◌==◌, ◌∷◌, ◌↔◌, ◌⊎◌, [], Some, true, false, length, option_map, Contains, IfSome, IfErr, OnOk, OnErr, IsErrOf};
 ghost use Rattle.std.specs.List.{list_any};
 ghost use Rattle.std.specs.Option.{option_copied};
-ghost use Rattle.oc_bytes.specs.Outcome.{Rose, cap_at_u64};
+ghost use Rattle.oc_bytes.specs.Outcome.{cap_at_u64, Faulted};
 ghost use Rattle.folder_store.specs.Folders.{AFile, AFolder, MayFail, content_of, entry_at, is_folder_at, is_name_text};
 ghost use Rattle.folder_store.specs.Stores.{can_add, has_parent, tree_stored, view_stood, with_entries};
 ghost use Rattle.folder_store.specs.Stores as stores;
@@ -110,7 +110,7 @@ impl MemStore {
 }
 
 impl Store for MemStore {
-    ghost use Rattle.folder_store.specs.Stocks.{stored_in, store_plan, store_calls, store_faults};
+    ghost use Rattle.folder_store.specs.Stocks.{stored_in, store_plan, store_calls, store_faults, NextStoreFails};
 
     ghost tree = { λ s. Some (stored_in s) };
 
@@ -125,15 +125,14 @@ impl Store for MemStore {
         ensures err { OnErr result (Some (stored_in self.new) ≡ Some (stored_in self.old)) }
         ensures later { store_faults self.old ≤ store_faults self.new }
         ensures cause { IsErrOf result StoreFault.Failed
-            → MayFail (Rose (store_faults self.old) (store_faults self.new))
-            (Some (stored_in self.old)) (λ t. can_add t path.now ≡ false) }
+            → MayFail (Faulted store_faults self.old self.new) (Some (stored_in self.old)) (λ t.
+            can_add t path.now ≡ false) }
         // The plan of failures.
         ensures planned { IsErrOf result StoreFault.Failed
-            ↔ (Contains (store_plan self.old) (store_calls self.old)
-            ⊎ (can_add (stored_in self.old) path.now ≡ false)) }
-        ensures counted { Contains (store_plan self.old) (store_calls self.old)
+            ↔ (NextStoreFails self.old ⊎ (can_add (stored_in self.old) path.now ≡ false)) }
+        ensures counted { NextStoreFails self.old
             → store_faults self.new ≡ cap_at_u64 (store_faults self.old + 1) }
-        ensures alone { (Contains (store_plan self.old) (store_calls self.old) → ⊥)
+        ensures alone { (NextStoreFails self.old → ⊥)
             → store_faults self.new ≡ store_faults self.old }
         ensures numbered { store_calls self.new ≡ cap_at_u64 (store_calls self.old + 1) }
         ensures plan { store_plan self.new ≡ store_plan self.old }
@@ -154,15 +153,14 @@ impl Store for MemStore {
         ensures err { OnErr result (Some (stored_in self.new) ≡ Some (stored_in self.old)) }
         ensures later { store_faults self.old ≤ store_faults self.new }
         ensures cause { IsErrOf result StoreFault.Failed
-            → MayFail (Rose (store_faults self.old) (store_faults self.new))
-            (Some (stored_in self.old)) (λ t. can_add t path.now ≡ false) }
+            → MayFail (Faulted store_faults self.old self.new) (Some (stored_in self.old)) (λ t.
+            can_add t path.now ≡ false) }
         // The plan of failures.
         ensures planned { IsErrOf result StoreFault.Failed
-            ↔ (Contains (store_plan self.old) (store_calls self.old)
-            ⊎ (can_add (stored_in self.old) path.now ≡ false)) }
-        ensures counted { Contains (store_plan self.old) (store_calls self.old)
+            ↔ (NextStoreFails self.old ⊎ (can_add (stored_in self.old) path.now ≡ false)) }
+        ensures counted { NextStoreFails self.old
             → store_faults self.new ≡ cap_at_u64 (store_faults self.old + 1) }
-        ensures alone { (Contains (store_plan self.old) (store_calls self.old) → ⊥)
+        ensures alone { (NextStoreFails self.old → ⊥)
             → store_faults self.new ≡ store_faults self.old }
         ensures numbered { store_calls self.new ≡ cap_at_u64 (store_calls self.old + 1) }
         ensures plan { store_plan self.new ≡ store_plan self.old }

@@ -1,9 +1,10 @@
 ghost use Rattle.std.specs.Prelude.{◌≡◌, ◌<◌, ◌≤◌, ◌+◌, ◌↔◌, ◌⊎◌, ◌++◌, ◌∷◌, [], ◌==◌, Some, None, true, false, map, is_some, Contains, IfOk, IfErr, OnErr, OnOk, IsErrOf, if◌then◌else◌};
 ghost use Rattle.std.specs.Option.{option_copied, option_map};
 ghost use Rattle.std.specs.String.{string_bytes};
-ghost use Rattle.oc_bytes.specs.Outcome.{Rose, cap_at_u64};
-ghost use Rattle.folder_store.specs.Folders.{FolderTree, after_prefix, content_of, entry_at, is_folder_at, view_entry, IsFolderTree, IsListed, IsRead, IsRefused, MayFail};
-ghost use Rattle.folder_store.specs.Memory.{AreEntries, entries_in, tree_of, ends_in_slash, file_name, folder_name, files_below, folders_below, with_folder};
+ghost use Rattle.oc_bytes.specs.Outcome.{cap_at_u64, Faulted};
+ghost use Rattle.folder_store.specs.Folders.{after_prefix, content_of, entry_at, is_folder_at, view_entry, IsFolderTree, IsListed, IsRead, IsRefused, MayFail, IsNoFolder, WhereTold};
+ghost use Rattle.folder_store.specs.Memory.{AreEntries, entries_in, tree_of, ends_in_slash};
+ghost use Rattle.folder_store.specs.Inner.Memory.{file_name, folder_name, files_below, folders_below, with_folder};
 
 use crate::folders::{EntryKind, FolderEntry, FolderFault, Folders, kept_text};
 use oc_bytes::{Blob, NoMemory};
@@ -80,7 +81,7 @@ impl MemFolders {
 }
 
 impl Folders for MemFolders {
-    ghost use Rattle.folder_store.specs.Kept.{tree_in, failing_calls, calls_made, calls_failed, last_refused};
+    ghost use Rattle.folder_store.specs.Kept.{tree_in, failing_calls, calls_made, calls_failed, last_refused, NextCallFails};
 
     ghost tree = { λ f. Some (tree_in f) };
 
@@ -93,32 +94,26 @@ impl Folders for MemFolders {
     fn list(&mut self, alloc: Global, path: &str) -> Result<Vec<FolderEntry>, FolderFault>
         ensures same { Some (tree_in self.new) ≡ Some (tree_in self.old) }
         ensures entries { IfOk result (λ es.
-            (t : FolderTree)
-            → Some (tree_in self.old) ≡ Some t
-            → IsListed t path.now (map view_entry es.items)) }
+            WhereTold (Some (tree_in self.old)) (λ t.
+            IsListed t path.now (map view_entry es.items))) }
         ensures later { calls_failed self.old ≤ calls_failed self.new }
         ensures cause { IsErrOf result FolderFault.Failed
-            → MayFail (Rose (calls_failed self.old) (calls_failed self.new))
-            (Some (tree_in self.old)) (λ t. is_folder_at t path.now ≡ false) }
-        ensures owed { (t : FolderTree)
-            → Some (tree_in self.old) ≡ Some t
-            → is_folder_at t path.now ≡ true
-            → self.new.strayed ≡ self.old.strayed }
-        ensures strays { (t : FolderTree)
-            → Some (tree_in self.old) ≡ Some t
-            → is_folder_at t path.now ≡ false
-            → self.new.strayed ≡ true }
+            → MayFail (Faulted calls_failed self.old self.new) (Some (tree_in self.old))
+            (IsNoFolder path.now) }
+        ensures owed { WhereTold (Some (tree_in self.old)) (λ t.
+            is_folder_at t path.now ≡ true → self.new.strayed ≡ self.old.strayed) }
+        ensures strays { WhereTold (Some (tree_in self.old)) (λ t.
+            is_folder_at t path.now ≡ false → self.new.strayed ≡ true) }
         ensures failed { IsErrOf result FolderFault.Failed
             → IsRefused (last_refused self.new) path.now }
         ensures kept { (IsErrOf result FolderFault.Failed → ⊥)
             → last_refused self.new ≡ last_refused self.old }
         // The plan of failures.
         ensures planned { IsErrOf result FolderFault.Failed
-            ↔ (Contains (failing_calls self.old) (calls_made self.old)
-            ⊎ (is_folder_at (tree_in self.old) path.now ≡ false)) }
-        ensures counted { Contains (failing_calls self.old) (calls_made self.old)
+            ↔ (NextCallFails self.old ⊎ (is_folder_at (tree_in self.old) path.now ≡ false)) }
+        ensures counted { NextCallFails self.old
             → calls_failed self.new ≡ cap_at_u64 (calls_failed self.old + 1) }
-        ensures alone { (Contains (failing_calls self.old) (calls_made self.old) → ⊥)
+        ensures alone { (NextCallFails self.old → ⊥)
             → calls_failed self.new ≡ calls_failed self.old }
         ensures made { calls_made self.new ≡ cap_at_u64 (calls_made self.old + 1) }
         ensures plan { failing_calls self.new ≡ failing_calls self.old }
@@ -136,30 +131,27 @@ impl Folders for MemFolders {
     fn read(&mut self, alloc: Global, path: &str, most: usize) -> Result<Vec<u8>, FolderFault>
         ensures same { Some (tree_in self.new) ≡ Some (tree_in self.old) }
         ensures bytes { IfOk result (λ bs.
-            (t : FolderTree) → Some (tree_in self.old) ≡ Some t → IsRead t path.now most bs.items) }
+            WhereTold (Some (tree_in self.old)) (λ t. IsRead t path.now most bs.items)) }
         ensures later { calls_failed self.old ≤ calls_failed self.new }
         ensures cause { IsErrOf result FolderFault.Failed
-            → MayFail (Rose (calls_failed self.old) (calls_failed self.new))
-            (Some (tree_in self.old)) (λ t. content_of (entry_at t path.now) ≡ None) }
-        ensures owed { (t : FolderTree)
-            → Some (tree_in self.old) ≡ Some t
-            → is_some (content_of (entry_at t path.now)) ≡ true
-            → self.new.strayed ≡ self.old.strayed }
-        ensures strays { (t : FolderTree)
-            → Some (tree_in self.old) ≡ Some t
-            → content_of (entry_at t path.now) ≡ None
-            → self.new.strayed ≡ true }
+            → MayFail (Faulted calls_failed self.old self.new) (Some (tree_in self.old)) (λ t.
+            content_of (entry_at t path.now) ≡ None) }
+        ensures owed { WhereTold (Some (tree_in self.old)) (λ t.
+            is_some (content_of (entry_at t path.now)) ≡ true
+            → self.new.strayed ≡ self.old.strayed) }
+        ensures strays { WhereTold (Some (tree_in self.old)) (λ t.
+            content_of (entry_at t path.now) ≡ None → self.new.strayed ≡ true) }
         ensures failed { IsErrOf result FolderFault.Failed
             → IsRefused (last_refused self.new) path.now }
         ensures kept { (IsErrOf result FolderFault.Failed → ⊥)
             → last_refused self.new ≡ last_refused self.old }
         // The plan of failures.
         ensures planned { IsErrOf result FolderFault.Failed
-            ↔ (Contains (failing_calls self.old) (calls_made self.old)
+            ↔ (NextCallFails self.old
             ⊎ (content_of (entry_at (tree_in self.old) path.now) ≡ None)) }
-        ensures counted { Contains (failing_calls self.old) (calls_made self.old)
+        ensures counted { NextCallFails self.old
             → calls_failed self.new ≡ cap_at_u64 (calls_failed self.old + 1) }
-        ensures alone { (Contains (failing_calls self.old) (calls_made self.old) → ⊥)
+        ensures alone { (NextCallFails self.old → ⊥)
             → calls_failed self.new ≡ calls_failed self.old }
         ensures made { calls_made self.new ≡ cap_at_u64 (calls_made self.old + 1) }
         ensures plan { failing_calls self.new ≡ failing_calls self.old }

@@ -1,7 +1,6 @@
 //! The texts of places that a survey names.
 
-ghost use Rattle.std.specs.Prelude.{◌≡◌, IfOk};
-ghost use Rattle.std.specs.String.{string_bytes};
+ghost use Rattle.oc_bytes.specs.Outcome.{Spells};
 ghost use Rattle.path_tree.specs.Texts.{text_of};
 ghost use Rattle.folder_store.specs.Surveys.{at_in, names_at, view_standing};
 
@@ -14,7 +13,7 @@ use std::alloc::Global;
 ///
 /// Out of memory is the only refusal.
 pub fn place_text(alloc: Global, at: &Option<Standing>) -> Result<String, NoMemory>
-    ensures { IfOk result (λ text. string_bytes text ≡ text_of (names_at (at_in at.now))) }
+    ensures { Spells result (text_of (names_at (at_in at.now))) }
 {
     match at {
         Some(standing) => standing_text(alloc, standing),
@@ -26,8 +25,7 @@ pub fn place_text(alloc: Global, at: &Option<Standing>) -> Result<String, NoMemo
 ///
 /// Out of memory is the only refusal.
 pub fn standing_text(alloc: Global, standing: &Standing) -> Result<String, NoMemory>
-    ensures { IfOk result (λ text.
-        string_bytes text ≡ text_of (names_at (view_standing standing.now))) }
+    ensures { Spells result (text_of (names_at (view_standing standing.now))) }
 {
     let name = print_name(alloc, standing.name.as_bytes())?;
     let name = name.as_str();

@@ -1,11 +1,11 @@
 ghost use Rattle.std.specs.Prelude.{◌≡◌, ◌≤◌, ◌<◌, ◌+◌, ◌-◌, ◌^◌, ◌++◌, ◌⊎◌, [], ◌∷◌, Some, None, Ok, Err, true, false, length, map, take, nat_lt, IfOk, OnOk, IsErrOf};
 ghost use Rattle.std.specs.String.{string_bytes};
-ghost use Rattle.oc_bytes.specs.Outcome.{Rose};
+ghost use Rattle.oc_bytes.specs.Outcome.{Faulted};
 ghost use Rattle.path_tree.specs.Paths.{Bytes};
 ghost use Rattle.path_tree.specs.Texts.{is_name};
-ghost use Rattle.folder_store.specs.Folders.{Entry, AFile, FolderTree, IsFolderTree, is_folder_at, kind_of, entry_at, content_of, view_entry, IsRefused, MayFail};
+ghost use Rattle.folder_store.specs.Folders.{Entry, AFile, FolderTree, IsFolderTree, is_folder_at, kind_of, entry_at, content_of, view_entry, IsRefused, MayFail, IsNoFolder, WhereTold};
 ghost use Rattle.folder_store.specs.Walk.{PutsFiles, edits_of, met_below, met_or_made, text_below, IsTooDeep, IsBadName};
-ghost use Rattle.folder_store.specs.Gathering.{IsSortedListing, Walks, met_one, kind_at};
+ghost use Rattle.folder_store.specs.Inner.Gathering.{IsSortedListing, Walks, met_one, kind_at};
 ghost use Rattle.folder_store.specs.Surveys.{at_in, first_large, marks_below, text_at};
 ghost use Rattle.folder_store.specs.Inner.Sighting.{Tells, look_in, marks_one, with_file};
 
@@ -169,16 +169,13 @@ fn sorted_entries<F: Folders>(
     path: &str,
 ) -> Result<Vec<FolderEntry>, ReadTree>
     ensures entries { IfOk result (λ es.
-        (t : FolderTree)
-        → F.tree folders.old ≡ Some t
-        → IsSortedListing t path.now (map view_entry es.items)) }
+        WhereTold (F.tree folders.old) (λ t.
+        IsSortedListing t path.now (map view_entry es.items))) }
     ensures fault { IsErrOf result ReadTree.FolderFault
-        → MayFail (Rose (F.faults folders.old) (F.faults folders.new)) (F.tree folders.old) (λ t.
-        is_folder_at t path.now ≡ false) }
-    ensures owed { (t : FolderTree)
-        → F.tree folders.old ≡ Some t
-        → is_folder_at t path.now ≡ true
-        → F.strayed folders.new ≡ F.strayed folders.old }
+        → MayFail (Faulted F.faults folders.old folders.new) (F.tree folders.old)
+        (IsNoFolder path.now) }
+    ensures owed { WhereTold (F.tree folders.old) (λ t.
+        is_folder_at t path.now ≡ true → F.strayed folders.new ≡ F.strayed folders.old) }
     ensures failed { IsErrOf result ReadTree.FolderFault
         → IsRefused (F.refused folders.new) path.now }
     ensures not_deep { IsErrOf result ReadTree.TooDeep → ⊥ }
@@ -222,7 +219,7 @@ fn read_file<F: Folders>(
     ensures not_deep { IsErrOf result ReadTree.TooDeep → ⊥ }
     ensures not_bad { IsErrOf result ReadTree.BadName → ⊥ }
     ensures fault { IsErrOf result ReadTree.FolderFault
-        → MayFail (Rose (F.faults folders.old) (F.faults folders.new)) (F.tree folders.old) (λ t.
+        → MayFail (Faulted F.faults folders.old folders.new) (F.tree folders.old) (λ t.
         content_of (entry_at t (string_bytes place.text)) ≡ None) }
     ensures owed { (t : FolderTree) (content : Bytes)
         → F.tree folders.old ≡ Some t
@@ -246,18 +243,16 @@ pub(crate) fn walk_folder<F: Folders>(
     gathered: &mut Gathered,
     sights: &mut Sights,
 ) -> Result<(), ReadTree>
-    ensures walk { (t : FolderTree)
-        → F.tree folders.old ≡ Some t
-        → Walks
+    ensures walk { WhereTold (F.tree folders.old) (λ t.
+        Walks
         (met_below t (MOST_NAMES - length place.now.path) place.now.path
         (string_bytes place.now.text)) gathered.old.edits.items gathered.old.read result
-        gathered.new.edits.items gathered.new.read }
-    ensures tells { (t : FolderTree)
-        → F.tree folders.old ≡ Some t
-        → Tells
+        gathered.new.edits.items gathered.new.read) }
+    ensures tells { WhereTold (F.tree folders.old) (λ t.
+        Tells
         (marks_below t (MOST_NAMES - length place.now.path) place.now.path
         (string_bytes place.now.text)) (look_in sights.old) gathered.old.read result
-        (look_in sights.new) gathered.new.read (at_in sights.new.at) }
+        (look_in sights.new) gathered.new.read (at_in sights.new.at)) }
     ensures large { (root : Bytes)
         → string_bytes place.now.text ≡ text_below root place.now.path
         → (look_in sights.old).large ≡ first_large root gathered.old.edits.items
@@ -268,16 +263,14 @@ pub(crate) fn walk_folder<F: Folders>(
         → IsErrOf result ReadTree.FolderFault
         → IsRefused (F.refused folders.new) (text_at root sights.new.at) }
     ensures fault { IsErrOf result ReadTree.FolderFault
-        → MayFail (Rose (F.faults folders.old) (F.faults folders.new)) (F.tree folders.old) (λ t.
-        is_folder_at t (string_bytes place.now.text) ≡ false) }
-    ensures no_folder { (t : FolderTree)
-        → F.tree folders.old ≡ Some t
-        → is_folder_at t (string_bytes place.now.text) ≡ false
-        → (result ≡ Err ReadTree.FolderFault) ⊎ (result ≡ Err ReadTree.NoMemory) }
-    ensures owed { (t : FolderTree)
-        → F.tree folders.old ≡ Some t
-        → is_folder_at t (string_bytes place.now.text) ≡ true
-        → F.strayed folders.new ≡ F.strayed folders.old }
+        → MayFail (Faulted F.faults folders.old folders.new) (F.tree folders.old)
+        (IsNoFolder (string_bytes place.now.text)) }
+    ensures no_folder { WhereTold (F.tree folders.old) (λ t.
+        is_folder_at t (string_bytes place.now.text) ≡ false
+        → (result ≡ Err ReadTree.FolderFault) ⊎ (result ≡ Err ReadTree.NoMemory)) }
+    ensures owed { WhereTold (F.tree folders.old) (λ t.
+        is_folder_at t (string_bytes place.now.text) ≡ true
+        → F.strayed folders.new ≡ F.strayed folders.old) }
     ensures same { F.tree folders.new ≡ F.tree folders.old }
     ensures later { F.faults folders.old ≤ F.faults folders.new }
 {
@@ -299,19 +292,16 @@ fn walk_below<F: Folders>(
     sights: &mut Sights,
 ) -> Result<(), ReadTree>
     requires { gathered.old.read ≤ MOST_PUT_BYTES }
-    ensures walk { (t : FolderTree)
-        → F.tree folders.old ≡ Some t
-        → Walks
+    ensures walk { WhereTold (F.tree folders.old) (λ t.
+        Walks
         (met_or_made place.path
         (met_below t (MOST_NAMES - length place.path) place.path (string_bytes place.text)))
         gathered.old.edits.items gathered.old.read result gathered.new.edits.items
-        gathered.new.read }
-    ensures tells { (t : FolderTree)
-        → F.tree folders.old ≡ Some t
-        → Tells
-        (marks_below t (MOST_NAMES - length place.path) place.path (string_bytes place.text))
+        gathered.new.read) }
+    ensures tells { WhereTold (F.tree folders.old) (λ t.
+        Tells (marks_below t (MOST_NAMES - length place.path) place.path (string_bytes place.text))
         (look_in sights.old) gathered.old.read result (look_in sights.new) gathered.new.read
-        (at_in sights.new.at) }
+        (at_in sights.new.at)) }
     ensures large { (root : Bytes)
         → string_bytes place.text ≡ text_below root place.path
         → (look_in sights.old).large ≡ first_large root gathered.old.edits.items
@@ -322,12 +312,11 @@ fn walk_below<F: Folders>(
         → IsErrOf result ReadTree.FolderFault
         → IsRefused (F.refused folders.new) (text_at root sights.new.at) }
     ensures fault { IsErrOf result ReadTree.FolderFault
-        → MayFail (Rose (F.faults folders.old) (F.faults folders.new)) (F.tree folders.old) (λ t.
-        is_folder_at t (string_bytes place.text) ≡ false) }
-    ensures owed { (t : FolderTree)
-        → F.tree folders.old ≡ Some t
-        → is_folder_at t (string_bytes place.text) ≡ true
-        → F.strayed folders.new ≡ F.strayed folders.old }
+        → MayFail (Faulted F.faults folders.old folders.new) (F.tree folders.old)
+        (IsNoFolder (string_bytes place.text)) }
+    ensures owed { WhereTold (F.tree folders.old) (λ t.
+        is_folder_at t (string_bytes place.text) ≡ true
+        → F.strayed folders.new ≡ F.strayed folders.old) }
     ensures same { F.tree folders.new ≡ F.tree folders.old }
     ensures later { F.faults folders.old ≤ F.faults folders.new }
 {
@@ -375,15 +364,14 @@ fn walk_entry<F: Folders>(
         → IsErrOf result ReadTree.FolderFault
         → IsRefused (F.refused folders.new) (text_at root sights.new.at) }
     ensures fault { IsErrOf result ReadTree.FolderFault
-        → MayFail (Rose (F.faults folders.old) (F.faults folders.new)) (F.tree folders.old) (λ t.
+        → MayFail (Faulted F.faults folders.old folders.new) (F.tree folders.old) (λ t.
         kind_at t (string_bytes place.now.text ++ 47 ∷ string_bytes entry.now.name)
         ≡ Some entry.now.kind
         → ⊥) }
-    ensures owed { (t : FolderTree)
-        → F.tree folders.old ≡ Some t
-        → kind_at t (string_bytes place.now.text ++ 47 ∷ string_bytes entry.now.name)
+    ensures owed { WhereTold (F.tree folders.old) (λ t.
+        kind_at t (string_bytes place.now.text ++ 47 ∷ string_bytes entry.now.name)
         ≡ Some entry.now.kind
-        → F.strayed folders.new ≡ F.strayed folders.old }
+        → F.strayed folders.new ≡ F.strayed folders.old) }
     ensures same { F.tree folders.new ≡ F.tree folders.old }
     ensures later { F.faults folders.old ≤ F.faults folders.new }
 {
@@ -426,31 +414,21 @@ pub fn read_tree<F: Folders>(
     root: &str,
 ) -> Result<Vec<Edit>, ReadTree>
     ensures edits { IfOk result (λ es.
-        (t : FolderTree) → F.tree folders.old ≡ Some t → edits_of t root.now ≡ Ok es.items) }
+        WhereTold (F.tree folders.old) (λ t. edits_of t root.now ≡ Ok es.items)) }
     ensures files { IfOk result (λ es.
-        (t : FolderTree)
-        → F.tree folders.old ≡ Some t
-        → IsFolderTree t
-        → PutsFiles t root.now es.items) }
+        WhereTold (F.tree folders.old) (λ t. IsFolderTree t → PutsFiles t root.now es.items)) }
     ensures too_deep { IsErrOf result ReadTree.TooDeep
-        → (t : FolderTree)
-        → F.tree folders.old ≡ Some t
-        → edits_of t root.now ≡ Err IsTooDeep }
+        → WhereTold (F.tree folders.old) (λ t. edits_of t root.now ≡ Err IsTooDeep) }
     ensures bad_name { IsErrOf result ReadTree.BadName
-        → (t : FolderTree)
-        → F.tree folders.old ≡ Some t
-        → edits_of t root.now ≡ Err IsBadName }
+        → WhereTold (F.tree folders.old) (λ t. edits_of t root.now ≡ Err IsBadName) }
     ensures fault { IsErrOf result ReadTree.FolderFault
-        → MayFail (Rose (F.faults folders.old) (F.faults folders.new)) (F.tree folders.old) (λ t.
-        is_folder_at t root.now ≡ false) }
-    ensures no_folder { (t : FolderTree)
-        → F.tree folders.old ≡ Some t
-        → is_folder_at t root.now ≡ false
-        → (result ≡ Err ReadTree.FolderFault) ⊎ (result ≡ Err ReadTree.NoMemory) }
-    ensures owed { (t : FolderTree)
-        → F.tree folders.old ≡ Some t
-        → is_folder_at t root.now ≡ true
-        → F.strayed folders.new ≡ F.strayed folders.old }
+        → MayFail (Faulted F.faults folders.old folders.new) (F.tree folders.old)
+        (IsNoFolder root.now) }
+    ensures no_folder { WhereTold (F.tree folders.old) (λ t.
+        is_folder_at t root.now ≡ false
+        → (result ≡ Err ReadTree.FolderFault) ⊎ (result ≡ Err ReadTree.NoMemory)) }
+    ensures owed { WhereTold (F.tree folders.old) (λ t.
+        is_folder_at t root.now ≡ true → F.strayed folders.new ≡ F.strayed folders.old) }
     ensures same { F.tree folders.new ≡ F.tree folders.old }
     ensures later { F.faults folders.old ≤ F.faults folders.new }
 {

@@ -1,7 +1,7 @@
 ghost use Rattle.std.specs.Prelude.{◌≡◌, ◌≤◌, ◌+◌, ◌-◌, ◌^◌, ◌<◌, [], length, take, min, None, false, IfOk, OnOk, IsErrOf};
 ghost use Rattle.std.specs.Option.{option_map};
 ghost use Rattle.std.specs.String.{string_bytes};
-ghost use Rattle.oc_bytes.specs.Outcome.{Rose, Known};
+ghost use Rattle.oc_bytes.specs.Outcome.{Rose, Known, Faulted};
 ghost use Rattle.oc_bytes.specs.Streams.{Takes};
 ghost use Rattle.folder_store.specs.Folders.{IsRefused};
 
@@ -188,8 +188,7 @@ fn read_front<S: Source>(
         Known (S.left source.old) (S.left source.new) (λ before _.
         bytes.items ≡ take most before)) }
     ensures later { S.faults source.old ≤ S.faults source.new }
-    ensures cause { IsErrOf result FolderFault.Failed
-        → Rose (S.faults source.old) (S.faults source.new) }
+    ensures cause { IsErrOf result FolderFault.Failed → Faulted S.faults source.old source.new }
 {
     let seems = usize::try_from(len).unwrap_or(most).min(most);
     let bytes = Vec::with_capacity(alloc, seems)?;
@@ -210,8 +209,7 @@ fn read_pieces<S: Source>(
         Known (S.left source.old) (S.left source.new) (λ before _.
         bytes.items ≡ take most before)) }
     ensures later { S.faults source.old ≤ S.faults source.new }
-    ensures cause { IsErrOf result FolderFault.Failed
-        → Rose (S.faults source.old) (S.faults source.new) }
+    ensures cause { IsErrOf result FolderFault.Failed → Faulted S.faults source.old source.new }
 {
     while bytes.len() < most {
         let n = read_piece(source, piece, most - bytes.len())?;
@@ -236,8 +234,7 @@ fn read_piece<S: Source>(
         Known (S.left source.old) (S.left source.new) (λ before after.
         Takes before after piece.new n)) }
     ensures later { S.faults source.old ≤ S.faults source.new }
-    ensures cause { IsErrOf result FolderFault.Failed
-        → Rose (S.faults source.old) (S.faults source.new) }
+    ensures cause { IsErrOf result FolderFault.Failed → Faulted S.faults source.old source.new }
 {
     let n = piece.len().min(most);
     match source.read(&mut piece[..n]) {

@@ -1,5 +1,5 @@
 ghost use Rattle.std.specs.Prelude.{◌≡◌, ◌≤◌, ℕ, Option, [], ◌∷◌, true, false, IfSome, OnOk, OnErr, IsErrOf};
-ghost use Rattle.oc_bytes.specs.Outcome.{Rose};
+ghost use Rattle.oc_bytes.specs.Outcome.{Faulted};
 
 use std::alloc::{AllocError, AllocFailed, Global};
 use thiserror::Error;
@@ -62,7 +62,7 @@ pub trait Store {
         ensures err { OnErr result (tree self.new ≡ tree self.old) }
         ensures later { faults self.old ≤ faults self.new }
         ensures cause { IsErrOf result StoreFault.Failed
-            → MayFail (Rose (faults self.old) (faults self.new)) (tree self.old) (λ t.
+            → MayFail (Faulted faults self.old self.new) (tree self.old) (λ t.
             can_add t path.now ≡ false) };
 
     /// Writes the file `path` of these bytes in a folder that is there.
@@ -73,7 +73,7 @@ pub trait Store {
         ensures err { OnErr result (tree self.new ≡ tree self.old) }
         ensures later { faults self.old ≤ faults self.new }
         ensures cause { IsErrOf result StoreFault.Failed
-            → MayFail (Rose (faults self.old) (faults self.new)) (tree self.old) (λ t.
+            → MayFail (Faulted faults self.old self.new) (tree self.old) (λ t.
             can_add t path.now ≡ false) };
 
     /// The count of faults, which stays at the greatest `u64`.

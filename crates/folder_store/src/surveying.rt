@@ -1,8 +1,8 @@
-ghost use Rattle.std.specs.Prelude.{◌≡◌, ◌≤◌, ◌⊎◌, Some, Ok, Err, false, true, nat_lt, IfOk, IfErr, IsErrAnd};
-ghost use Rattle.oc_bytes.specs.Outcome.{Rose};
+ghost use Rattle.std.specs.Prelude.{◌≡◌, ◌≤◌, ◌⊎◌, Ok, Err, false, true, nat_lt, IfOk, IfErr, IsErrAnd};
+ghost use Rattle.oc_bytes.specs.Outcome.{Faulted};
 ghost use Rattle.generation_catalogue.specs.History.{put_bytes};
 ghost use Rattle.generation_catalogue.specs.declared.journal.TheConstants.{MOST_PUT_BYTES};
-ghost use Rattle.folder_store.specs.Folders.{FolderTree, is_folder_at, IsRefused, MayFail};
+ghost use Rattle.folder_store.specs.Folders.{is_folder_at, IsRefused, MayFail, IsNoFolder, WhereTold};
 ghost use Rattle.folder_store.specs.Walk.{edits_of, IsTooDeep, IsBadName};
 ghost use Rattle.folder_store.specs.Surveys.{at_in, first_large, survey_of, text_at, view_survey};
 
@@ -59,38 +59,32 @@ pub fn survey<F: Folders>(
     root: &str,
 ) -> Result<Surveyed, SurveyFault>
     ensures edits { IfOk result (λ s.
-        (t : FolderTree) → F.tree folders.old ≡ Some t → edits_of t root.now ≡ Ok s.edits.items) }
+        WhereTold (F.tree folders.old) (λ t. edits_of t root.now ≡ Ok s.edits.items)) }
     ensures look { IfOk result (λ s.
-        (t : FolderTree)
-        → F.tree folders.old ≡ Some t
-        → nat_lt MOST_PUT_BYTES (put_bytes s.edits.items) ≡ false
-        → survey_of t root.now ≡ Ok (view_survey s)) }
+        WhereTold (F.tree folders.old) (λ t.
+        nat_lt MOST_PUT_BYTES (put_bytes s.edits.items) ≡ false
+        → survey_of t root.now ≡ Ok (view_survey s))) }
     ensures large { IfOk result (λ s. (view_survey s).large ≡ first_large root.now s.edits.items) }
     ensures too_deep { IfErr result (λ f.
         f.cause ≡ ReadTree.TooDeep
-        → (t : FolderTree)
-        → F.tree folders.old ≡ Some t
-        → (edits_of t root.now ≡ Err IsTooDeep) × (survey_of t root.now ≡ Err (at_in f.at))) }
+        → WhereTold (F.tree folders.old) (λ t.
+        (edits_of t root.now ≡ Err IsTooDeep) × (survey_of t root.now ≡ Err (at_in f.at)))) }
     ensures bad_name { IfErr result (λ f.
         f.cause ≡ ReadTree.BadName
-        → (t : FolderTree)
-        → F.tree folders.old ≡ Some t
-        → (edits_of t root.now ≡ Err IsBadName) × (survey_of t root.now ≡ Err (at_in f.at))) }
+        → WhereTold (F.tree folders.old) (λ t.
+        (edits_of t root.now ≡ Err IsBadName) × (survey_of t root.now ≡ Err (at_in f.at)))) }
     ensures fault { IfErr result (λ f.
         f.cause ≡ ReadTree.FolderFault
-        → MayFail (Rose (F.faults folders.old) (F.faults folders.new)) (F.tree folders.old) (λ t.
-        is_folder_at t root.now ≡ false)) }
+        → MayFail (Faulted F.faults folders.old folders.new) (F.tree folders.old)
+        (IsNoFolder root.now)) }
     ensures named { IfErr result (λ f.
         f.cause ≡ ReadTree.FolderFault
         → IsRefused (F.refused folders.new) (text_at root.now f.at)) }
-    ensures no_folder { (t : FolderTree)
-        → F.tree folders.old ≡ Some t
-        → is_folder_at t root.now ≡ false
-        → IsErrAnd result (λ f. (f.cause ≡ ReadTree.FolderFault) ⊎ (f.cause ≡ ReadTree.NoMemory)) }
-    ensures owed { (t : FolderTree)
-        → F.tree folders.old ≡ Some t
-        → is_folder_at t root.now ≡ true
-        → F.strayed folders.new ≡ F.strayed folders.old }
+    ensures no_folder { WhereTold (F.tree folders.old) (λ t.
+        is_folder_at t root.now ≡ false
+        → IsErrAnd result (λ f. (f.cause ≡ ReadTree.FolderFault) ⊎ (f.cause ≡ ReadTree.NoMemory))) }
+    ensures owed { WhereTold (F.tree folders.old) (λ t.
+        is_folder_at t root.now ≡ true → F.strayed folders.new ≡ F.strayed folders.old) }
     ensures same { F.tree folders.new ≡ F.tree folders.old }
     ensures later { F.faults folders.old ≤ F.faults folders.new }
 {

@@ -3,6 +3,7 @@
 use crate::spelling::spelled;
 use crate::told::{Told, read};
 use crate::words::array;
+use carousel_profile::PACKET_LENGTH;
 use test_rows::{Line, Row, RowFault};
 use ts_packet::{Fate, Packet, build, parse};
 
@@ -42,7 +43,7 @@ fn payloads(row: &Row<'_>) -> Line {
 }
 
 /// Puts the length of a packet's payload behind what stands.
-fn payload_text(line: Line, packet: &[u8; 188]) -> Line {
+fn payload_text(line: Line, packet: &[u8; PACKET_LENGTH]) -> Line {
     match parse(packet) {
         Ok(packet) => line.value("", &packet.payload.len()),
         Err(fault) => line.value("", &fault),
@@ -89,7 +90,7 @@ fn fate(row: &Row<'_>) -> Fate {
 }
 
 /// Puts the bytes that aren't as they were.
-fn changes(mut line: Line, before: &[u8; 188], after: &[u8; 188]) -> Line {
+fn changes(mut line: Line, before: &[u8; PACKET_LENGTH], after: &[u8; PACKET_LENGTH]) -> Line {
     for (place, (old, new)) in before.iter().zip(after).enumerate() {
         line = change(line, place, *old, *new);
     }

@@ -6,7 +6,8 @@
 //! - `ior-location BYTES`: the location that a reference has, and the transactionId of the control messages by which it is
 //!   reached.
 
-ghost use Rattle.std.specs.Prelude.{◌≡◌, ◌≤◌, IfOk};
+ghost use Rattle.std.specs.Prelude.{◌≤◌, IfOk};
+ghost use Rattle.oc_bytes.specs.Outcome.{MakesList};
 ghost use Rattle.ior_tap.specs.Iors.{view, IsWritten, written_tap};
 ghost use Rattle.ior_tap.specs.declared.Location.{Location};
 ghost use Rattle.module_groups.specs.declared.TheConstants.{GREATEST_ID};
@@ -45,7 +46,7 @@ pub(crate) fn module_id(row: &Row<'_>, place: usize) -> u16
 
 /// The selector of the tap by which a module is reached: its type, the transactionId, and no time-out.
 fn selector(alloc: Global, module_id: u16) -> Result<Vec<u8>, AllocError>
-    ensures { IfOk result (λ bytes. bytes.items ≡ (written_tap module_id).selector) }
+    ensures { MakesList result (written_tap module_id).selector }
 {
     let mut out = Writer::new(alloc);
     out.put_u16(1)?;

@@ -6,6 +6,7 @@ ghost use Rattle.section_stream.specs.Packing.{IsSectionLike};
 use crate::spelling::spelled;
 use crate::told::{Told, each};
 use crate::words::array;
+use carousel_profile::PACKET_LENGTH;
 use oc_bytes::{MOST_SECTION, length_field};
 use section_stream::{Counts, Demux, MOST_PIECE, Mux, PacketDemux};
 use std::alloc::{AllocError, Global};
@@ -75,7 +76,12 @@ fn feed_packets(row: &Row<'_>, demux: &mut Demux, sections: &mut Vec<Vec<u8>>) {
 }
 
 #[tactic(auto, using(std::proofs::lemmas::List::nil_from_length))]
-fn feed_packet(row: &Row<'_>, demux: &mut Demux, packet: &[u8; 188], sections: &mut Vec<Vec<u8>>) {
+fn feed_packet(
+    row: &Row<'_>,
+    demux: &mut Demux,
+    packet: &[u8; PACKET_LENGTH],
+    sections: &mut Vec<Vec<u8>>,
+) {
     if demux.pending() != 0 {
         return row.fail(RowFault::BadRow);
     }
@@ -241,7 +247,7 @@ fn packed(alloc: Global, row: &Row<'_>) -> Line {
     each(row.line(), "; ", &packets).or("no packets")
 }
 
-fn pack(row: &Row<'_>, mux: &mut Mux, section: &[u8], packets: &mut Vec<[u8; 188]>) {
+fn pack(row: &Row<'_>, mux: &mut Mux, section: &[u8], packets: &mut Vec<[u8; PACKET_LENGTH]>) {
     if !is_section(section) {
         return row.fail(RowFault::BadRow);
     }

@@ -1,29 +1,13 @@
 -- The layouts of a list of trees are lawful.
-use Rattle.std.proofs.Common.{◌≡◌, ◌≢◌, ℕ, zero, suc, ◌+◌, ◌<◌, ◌≤◌, Bool, true, false, List, [], ◌∷◌, length, map, Option, Some, None, cond, refl, sym, ◌∙◌, ap, subst, arith, get_or, length-append, nat_le, lit<, lit≤, inl, inr}
-use Rattle.std.specs.List.{All, list_any, range_with_len, filter, filter_map, flat_map, sum_by}
-use Rattle.std.proofs.lemmas.Bool.Decides.{nat_tests}
-use Rattle.std.proofs.lemmas.List.Elements.{All-cons}
-use Rattle.std.proofs.lemmas.Option.{same_Some}
-use Rattle.std.proofs.lemmas.List.Sums.{sum_by-cons}
-use Rattle.std.proofs.lemmas.Bool.{cond_both, cases_Bool}
+use Rattle.std.proofs.Common.{◌≡◌, ◌≢◌, ℕ, zero, suc, ◌+◌, ◌<◌, ◌≤◌, List, [], ◌∷◌, length, map, Option, Some, None, cond, refl, sym, ◌∙◌, ap, subst, arith, get_or, length-append, nat_le, lit<, lit≤, inl, inr}
+use Rattle.generation.proofs.Words.{cases_eq, cases_lt, eq-eqb, ne_eqb, lt-leb, le-leb, All, list_any, range_with_len, filter, filter_map, flat_map, sum_by, All-cons, same_Some, sum_by-cons, cond_both, cases_Bool, IsBytes, Bytes, Tree, IsTree, Layout, module_in, SpellingsReadBack, KeptIsAPlacement, GREATEST_ID, gateway_spot, GenerationState, object_bytes, is_in, module_bytes, module_if_used, layout_of, greatest, first_of, next_of, gateway_before, IsLayout, Carries, IsPublishable, layout_at, tree_at, states_from, layouts_of, LayoutsAreLawful, Placed}
 use Rattle.generation.proofs.Naming.{carries}
-use Rattle.generation.proofs.Numbering.{all_unmap}
-use Rattle.oc_bytes.specs.Numbers.{IsBytes}
-use Rattle.path_tree.specs.Paths.{Bytes}
-use Rattle.path_tree.specs.Trees.{Tree, IsTree}
-use Rattle.biop_object.specs.Names.{Layout, module_in}
-use Rattle.biop_object.specs.Spelled.{SpellingsReadBack}
-use Rattle.module_packer.specs.Kept.{KeptIsAPlacement}
-use Rattle.module_groups.specs.declared.TheConstants.{GREATEST_ID}
-use Rattle.generation.specs.Publication.{gateway_spot}
-use Rattle.generation.specs.Layouts.{GenerationState, Placed, object_bytes, is_in, module_bytes, module_if_used, layout_of, greatest, first_of, next_of, gateway_before}
-use Rattle.generation.specs.Lawful.{IsLayout, Carries, IsPublishable, layout_at, tree_at}
-use Rattle.generation.specs.Kept.{states_from, layouts_of, LayoutsAreLawful}
+use Rattle.generation.proofs.Numbering.{all_unmap, all_valid, IsValidSpot}
 use Rattle.generation.proofs.Placing.{total_length, greatest_most, rising, each_listed}
 use Rattle.generation.proofs.Lists.{state_at, state_tree, state_layout, length_states}
 use Rattle.generation.proofs.Carrying.{module_found}
 use Rattle.generation.proofs.Filling.{Filled, module_size, Made, Before, made_of}
-use Rattle.generation.proofs.Octets.{IsByteSpot, module_octets, tree_octets}
+use Rattle.generation.proofs.Octets.{module_octets}
 
 -- ---- sizes
 
@@ -43,19 +27,15 @@ high_all f a (o ∷ os) =
 piece_high : (g : Placed → Bytes) (a : ℕ) (os : List Placed) → length (flat_map g (filter (is_in a) os)) + high (λ o. length (g o)) (a + 1) os ≡ high (λ o. length (g o)) a os
 unfolding high
 piece_high g a [] = refl
-piece_high g a (o ∷ os) = go (is_in a o) (nat_le (a + 1) o.module_id) (nat_le a o.module_id) refl refl refl (piece_high g a os) where
-  later : List Placed
-  later = filter (is_in a) os
-
-  go : (s t u : Bool) → is_in a o ≡ s → nat_le (a + 1) o.module_id ≡ t → nat_le a o.module_id ≡ u → length (flat_map g later) + high (λ o. length (g o)) (a + 1) os ≡ high (λ o. length (g o)) a os
-      → length (flat_map g (cond s (o ∷ later) later)) + (cond t (length (g o)) 0 + high (λ o. length (g o)) (a + 1) os) ≡ cond u (length (g o)) 0 + high (λ o. length (g o)) a os
-  go true true u es et eu h = absurd (grind (arith, nat_tests, es, et))
-  go true false false es et eu h = absurd (grind (arith, nat_tests, es, eu))
-  go true false true es et eu h = omega (arith, h, length-append (g o) (flat_map g later))
-  go false true true es et eu h = omega (arith, h)
-  go false true false es et eu h = absurd (grind (arith, nat_tests, et, eu))
-  go false false true es et eu h = absurd (grind (arith, nat_tests, es, et, eu))
-  go false false false es et eu h = omega (arith, h)
+piece_high g a (o ∷ os) =
+    let rest = piece_high g a os in
+    elim (cases_eq o.module_id a) [
+      | inl is ↦ rw (eq-eqb o.module_id a is, lt-leb (a + 1) o.module_id (omega (arith, is)), le-leb a o.module_id (omega (arith, is))) (omega (arith, rest, length-append (g o) (flat_map g (filter (is_in a) os))))
+      | inr ne ↦ rw (ne_eqb o.module_id a ne) (elim (cases_lt o.module_id a) [
+        | inl low ↦ rw (lt-leb (a + 1) o.module_id (omega (arith, low)), lt-leb a o.module_id low) (omega (arith, rest))
+        | inr up ↦ rw (le-leb (a + 1) o.module_id (omega (arith, up, ne)), le-leb a o.module_id up) (omega (arith, rest))
+      ])
+    ]
 
 total_high : (c : ℕ) (objects : List Placed) (a n : ℕ) → sum_by (λ m. length m.1) (filter_map (module_if_used c objects) (range_with_len a n)) ≤ high (λ o. length (object_bytes c objects o)) a objects
 total_high c objects a zero = omega arith
@@ -74,8 +54,8 @@ pub record IsFine (layout : Layout) : Type 0 where
   pub total : sum_by (λ m. length m.1) layout ≤ 268435456
   pub sizes : All (λ m. length m.1 ≤ 16842752) layout
 
-byte_spots : (c : ℕ) (t : Tree) (objects : List Placed) → Made c t objects → All (λ o. IsByteSpot o.spot) objects
-byte_spots c t objects made = all_unmap IsByteSpot (λ o. o.spot) objects (subst (All IsByteSpot) (sym made.sound.spots) (tree_octets t made.sound.tree))
+byte_spots : (c : ℕ) (t : Tree) (objects : List Placed) → Made c t objects → All (λ o. IsValidSpot o.spot) objects
+byte_spots c t objects made = all_unmap IsValidSpot (λ o. o.spot) objects (subst (All IsValidSpot) (sym made.sound.spots) (all_valid t made.sound.tree))
 
 filled_of : (c : ℕ) (t : Tree) (objects : List Placed) → Made c t objects → Filled t objects
 filled_of c t objects made = record { tree = made.sound.tree; within = made.within; spots = made.sound.spots; placement = made.placement }

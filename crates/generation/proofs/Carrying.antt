@@ -1,21 +1,9 @@
 -- The modules carry the tree.
 use Rattle.std.proofs.Common.{◌≡◌, ℕ, zero, suc, ◌+◌, ◌<◌, ◌≤◌, Bool, true, false, ◌==◌, List, [], ◌∷◌, ◌++◌, length, map, take, drop, Option, Some, None, cond, refl, sym, ◌∙◌, ap, subst, arith, append_assoc, length-append, ◌⊎◌, inl, inr, max}
-use Rattle.std.specs.List.{All, list_any, range_with_len, filter, filter_map, flat_map, find, fold}
-use Rattle.std.specs.Option.{option_map}
-use Rattle.std.proofs.lemmas.List.Elements.{All-cons, All-map, All-filter}
-use Rattle.std.proofs.lemmas.Bool.{or_parts, or_right, eq-eqb, cond_both, cases_eq, cases_Bool, ne_eqb}
-use Rattle.std.proofs.lemmas.List.{drop-drop, drop_at, take_at}
+use Rattle.generation.proofs.Words.{All, list_any, range_with_len, filter, filter_map, flat_map, find, fold, option_map, All-cons, All-map, All-filter, or_parts, or_right, eq-eqb, cond_both, cases_eq, cases_Bool, ne_eqb, drop-drop, drop_at, take_at, Bytes, same_name, Tree, IsTree, module_in, Thing, AFile, AFolder, thing_at, thing_in, thing_of, first_of_key, Object, binding_of, file_spelling, index_of, Spelled, spelled_bytes, spelled_object, spelled_objects, IsSpellable, SpellingsReadBack, GREATEST_ID, spots_of, gateway_spot, key_bytes, location_of, folder_kind_of, object_bytes, is_in, module_bytes, module_if_used, layout_of, greatest, Placed, entries_of}
 use Rattle.generation.proofs.Numbering.{option_cases}
 use Rattle.generation.proofs.Placing.{fold_least}
-use Rattle.path_tree.specs.Paths.{Bytes, same_name}
-use Rattle.path_tree.specs.Trees.{Tree, IsTree}
-use Rattle.biop_object.specs.Names.{module_in, Thing, AFile, AFolder, thing_at, thing_in, thing_of, first_of_key}
-use Rattle.biop_object.specs.Objects.{Object, binding_of, file_spelling}
-use Rattle.biop_object.specs.ObjectReading.{index_of}
-use Rattle.biop_object.specs.Spelled.{Spelled, AFile as SpelledFile, AFolder as SpelledFolder, spelled_bytes, spelled_object, spelled_objects, IsSpellable, SpellingsReadBack}
-use Rattle.module_groups.specs.declared.TheConstants.{GREATEST_ID}
-use Rattle.generation.specs.Publication.{spots_of, gateway_spot}
-use Rattle.generation.specs.Layouts.{Placed, key_bytes, location_of, entries_of, folder_kind_of, object_bytes, is_in, module_bytes, module_if_used, layout_of, greatest}
+use Rattle.biop_object.specs.Spelled.{AFile as SpelledFile, AFolder as SpelledFolder}
 use Rattle.generation.proofs.Keyed.{Distinct, same_keys}
 
 -- ---- what an object is to a reader

@@ -1,32 +1,10 @@
 -- Where the objects of a tree stay after those of another, what their modules hold, and that these objects are sound.
 use Rattle.std.proofs.Common.{◌≡◌, ℕ, zero, suc, ◌+◌, ◌<◌, ◌≤◌, max, Bool, true, false, ◌==◌, List, [], ◌∷◌, length, map, Some, None, cond, refl, sym, ◌∙◌, ap, subst, arith, get_or, length-append, inl, inr, lit<, Result, Ok, Err, Vec, Global, ◌*◌, Option}
-use Rattle.std.specs.Prelude.{slice_get, IfOk}
-use Rattle.std.specs.List.{All, AllPairs, list_any, range_with_len, filter, filter_map, flat_map, count_by, zip}
-use Rattle.std.proofs.lemmas.Bool.Decides.{nat_tests}
-use Rattle.std.proofs.lemmas.Bool.{cases_lt, cond_both, cond-true, cond-false, cases_Bool}
-use Rattle.std.proofs.lemmas.Grind.{div_ceil_times}
-use Rattle.std.proofs.lemmas.Option.{same_Some}
-use Rattle.std.proofs.lemmas.List.Elements.{All-map, All-cons, All-nil, All-head, All-tail}
-use Rattle.std.proofs.lemmas.List.Kept.{AllPairs-cons}
-use Rattle.std.proofs.lemmas.List.Sums.{sum_by-cons}
-use Rattle.std.proofs.lemmas.List.{length-map}
+use Rattle.carousel_profile.specs.declared.TheConstants.{BLOCK_SIZE}
+use Rattle.generation.proofs.Words.{slice_get, IfOk, All, AllPairs, list_any, range_with_len, filter, filter_map, flat_map, count_by, zip, nat_tests, cases_lt, cond_both, cond-true, cond-false, cases_Bool, div_ceil_times, same_Some, All-map, All-cons, All-nil, All-head, All-tail, AllPairs-cons, sum_by-cons, length-map, Bytes, Tree, IsTree, IsPlacement, sum_in, modules_needed, block_count_of, AreLines, GREATEST_ID, spots_of, sizes_of, size_of, is_large_folder, limit_of, gateway_spot, spots_in, is_child, AreRising, object_bytes, is_in, module_bytes, module_if_used, layout_of, lines_in, greatest, placed_all, keys_of, modules_for, placed_at, key_in, old_keys, taken_in, free_keys, fill_keys, key_bytes, folder_kind_of, is_same_spot, written_in, module_of, old_modules, view_placed, view_spot, placed_from, IsSpotIn, AreReady, AreOld, nested, folder_spelling, IsSpellable, IsSpellableEntry, KeptIsAPlacement, sizes_in, AreObjects, CodeSpot, CodePlaced, Spot, Placed, entries_of}
 use Rattle.generation.proofs.Numbering.{all_unmap, rising_all, all_valid, IsValidSpot, child_has, option_cases}
-use Rattle.generation.specs.declared.spots.Spot.{Spot as CodeSpot}
-use Rattle.path_tree.specs.Paths.{Bytes}
-use Rattle.path_tree.specs.Trees.{Tree, IsTree}
-use Rattle.module_packer.specs.Placement.{IsPlacement, sum_in, modules_needed}
-use Rattle.ddb_block.specs.Blocks.{block_count_of}
-use Rattle.cycle_planner.specs.Cycle.{AreLines}
-use Rattle.module_groups.specs.declared.TheConstants.{GREATEST_ID}
-use Rattle.generation.specs.declared.objects.Placed.{Placed as CodePlaced}
-use Rattle.generation.specs.Publication.{spots_of, sizes_of, size_of, is_large_folder, limit_of, Spot, gateway_spot, spots_in, is_child, AreRising}
-use Rattle.generation.specs.Layouts.{Placed, object_bytes, is_in, module_bytes, module_if_used, layout_of, lines_in, greatest, placed_all, keys_of, modules_for, placed_at, key_in, old_keys, taken_in, free_keys, fill_keys, key_bytes, entries_of, folder_kind_of, is_same_spot, written_in, module_of, old_modules}
-use Rattle.generation.specs.View.{view_placed, view_spot, placed_from, IsSpotIn, AreReady, AreOld}
 use Rattle.generation.proofs.Placing.{Within, within_limits, length-keys_of, length-object_bytes, folder_small, find_none, greatest_most, placed_parts, rising, each_listed, placed_view, placed_valid, are_ready, fold_least, few_kept}
-use Rattle.path_tree.specs.Nestings.{nested}
-use Rattle.biop_object.specs.Objects.{folder_spelling}
-use Rattle.biop_object.specs.Spelled.{IsSpellable, IsSpellableEntry}
-use Rattle.module_packer.specs.Kept.{KeptIsAPlacement, Placed as Sized, sizes_in, kept_modules, AreObjects}
+use Rattle.module_packer.specs.Kept.{Placed as Sized, kept_modules}
 use Rattle.generation.proofs.Keyed.{Distinct, keys_distinct, keys_small}
 use Rattle.generation.proofs.Carrying.{spelled, In, Sound, AreSmall}
 
@@ -108,9 +86,6 @@ placed_read t old objects ms er em placement =
 abbrev pub IsSized : Spot → Type 0
 IsSized s = (b : Bytes) → s.content ≡ Some b → length b ≤ 16777216
 
-pub all_sizes : (t : Tree) → IsTree t → All IsSized (spots_of t)
-all_sizes t tree i d lt = (all_valid t tree i d lt).small
-
 -- ---- entries
 
 entries_valid : (c folder : ℕ) (os : List Placed) → c < 4294967296 → All (λ o. IsValidSpot o.spot) os → All (λ o. (1 ≤ o.module_id) × (o.module_id ≤ GREATEST_ID)) os → All IsSpellableEntry (entries_of c os folder)
@@ -188,7 +163,6 @@ made_of law c t old small tree limit b =
     let sk : AreSmall objects = all_unmap (λ k. k < 8194) (λ o. o.key) objects (subst (All (λ k. k < 8194)) (sym ek) (keys_small old spots b.small within.few)) in
     let ids : All (λ o. (1 ≤ o.module_id) × (o.module_id ≤ GREATEST_ID)) objects = all_unmap (λ m. (1 ≤ m) × (m ≤ GREATEST_ID)) (λ o. o.module_id) objects (subst (All (λ m. (1 ≤ m) × (m ≤ GREATEST_ID))) (sym em) placement.numbers) in
     let names : All (λ o. IsValidSpot o.spot) objects = all_unmap IsValidSpot (λ o. o.spot) objects (subst (All IsValidSpot) (sym es) (all_valid t tree)) in
-    let sized : All (λ o. IsSized o.spot) objects = all_unmap IsSized (λ o. o.spot) objects (subst (All IsSized) (sym es) (all_sizes t tree)) in
     let fits : All (λ o. is_large_folder spots o.spot ≡ false) objects = all_unmap (λ s. is_large_folder spots s ≡ false) (λ o. o.spot) objects (subst (All (λ s. is_large_folder spots s ≡ false)) (sym es) (find_none (is_large_folder spots) spots within.folders)) in
     let k1 = gateway_key old b (spots_in 0 1 (nested t)) (free_keys (taken_in (old_keys old spots)) (length spots)) in
     let m1 = first_one ms placement.first in
@@ -203,7 +177,7 @@ made_of law c t old small tree limit b =
         keys = dk;
         small = sk;
         modules = ids;
-        spellable = λ i d lt. spellable c t objects small within es names ids (get_or objects i d) (sized i d lt) (fits i d lt);
+        spellable = λ i d lt. spellable c t objects small within es names ids (get_or objects i d) (names i d lt).small (fits i d lt);
         gateway = g;
         has_gateway = subst (In g) (sym first) (inl refl);
         is_gateway = (refl, refl, refl);
@@ -261,10 +235,10 @@ object_small c t objects made o sized fits =
 
 each_small : (c : ℕ) (t : Tree) (objects : List Placed) → Filled t objects → All (λ o. length (object_bytes c objects o) ≤ 16777260) objects
 each_small c t objects made =
-    let sized : All (λ o. IsSized o.spot) objects = all_unmap IsSized (λ o. o.spot) objects (subst (All IsSized) (sym made.spots) (all_sizes t made.tree)) in
+    let valid : All (λ o. IsValidSpot o.spot) objects = all_unmap IsValidSpot (λ o. o.spot) objects (subst (All IsValidSpot) (sym made.spots) (all_valid t made.tree)) in
     let fits : All (λ o. is_large_folder (spots_of t) o.spot ≡ false) objects =
     all_unmap (λ s. is_large_folder (spots_of t) s ≡ false) (λ o. o.spot) objects (subst (All (λ s. is_large_folder (spots_of t) s ≡ false)) (sym made.spots) (find_none (is_large_folder (spots_of t)) (spots_of t) made.within.folders)) in
-    λ i d lt. object_small c t objects made (get_or objects i d) (sized i d lt) (fits i d lt)
+    λ i d lt. object_small c t objects made (get_or objects i d) (valid i d lt).small (fits i d lt)
 
 pub module_size : (c : ℕ) (t : Tree) (objects : List Placed) → Filled t objects → (m : ℕ) → length (module_bytes c objects m) ≤ 16842752
 module_size c t objects made m = elim (cases_lt 1 (count_by (λ k. k == m) (map (λ o. o.module_id) objects))) [
@@ -291,14 +265,14 @@ some_listed : (c : ℕ) (objects : List Placed) (n : ℕ) → 1 ≤ n → list_a
 some_listed c objects zero le used = absurd (omega (arith, le))
 some_listed c objects (suc n) le used = rw used (omega arith)
 
-few_blocks : (n : ℕ) → n ≤ 16842752 → block_count_of n 4066 ≤ 65536
-few_blocks n le = omega (arith, le, div_ceil_times n 4066 (lit< tt))
+few_blocks : (n : ℕ) → n ≤ 16842752 → block_count_of n BLOCK_SIZE ≤ 65536
+few_blocks n le = omega (arith, le, div_ceil_times n BLOCK_SIZE (lit< tt))
 
 lines_rise : (layout : List (ℕ × Bytes)) → AllPairs (λ a b. a.0 < b.0) layout → AllPairs (λ a b. a.0 < b.0) (lines_in layout)
 lines_rise [] pairs = λ i j d lt within. absurd (omega (arith, within))
 lines_rise (m ∷ ms) pairs =
-    AllPairs-cons (λ a b. a.0 < b.0) (m.0, block_count_of (length m.1) 4066) (lines_in ms)
-    (All-map (λ b. m.0 < b.0) (λ x. (x.0, block_count_of (length x.1) 4066)) ms (λ k d lt. pairs 0 (suc k) d (omega arith) (omega (arith, lt))))
+    AllPairs-cons (λ a b. a.0 < b.0) (m.0, block_count_of (length m.1) BLOCK_SIZE) (lines_in ms)
+    (All-map (λ b. m.0 < b.0) (λ x. (x.0, block_count_of (length x.1) BLOCK_SIZE)) ms (λ k d lt. pairs 0 (suc k) d (omega arith) (omega (arith, lt))))
     (lines_rise ms (λ i j d lt within. pairs (suc i) (suc j) d (omega (arith, lt)) (omega (arith, within))))
 
 pub lines_of_filled : (c : ℕ) (t : Tree) (objects : List Placed) → Filled t objects → AreLines (lines_in (layout_of c objects))
@@ -307,7 +281,7 @@ lines_of_filled c t objects made =
     let layout = layout_of c objects in
     let most : top ≤ GREATEST_ID = greatest_most (map (λ o. o.module_id) objects) GREATEST_ID made.placement.numbers in
     let first = first_in objects made.placement.first in
-    let line : ℕ × Bytes → ℕ × ℕ = λ m. (m.0, block_count_of (length m.1) 4066) in
+    let line : ℕ × Bytes → ℕ × ℕ = λ m. (m.0, block_count_of (length m.1) BLOCK_SIZE) in
     let sizes = each_listed (λ m. length m.1 ≤ 16842752) c objects 1 top (λ m low lt used. module_size c t objects made m) in
     let above = each_listed (λ m. 1 ≤ m.0) c objects 1 top (λ m low lt used. low) in
     let below = each_listed (λ m. m.0 ≤ GREATEST_ID) c objects 1 top (λ m low lt used. omega (arith, lt, most)) in

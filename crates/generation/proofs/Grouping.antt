@@ -1,26 +1,8 @@
 -- Which DII lists which module, and how many one lists.
 use Rattle.std.proofs.Common.{◌≡◌, ℕ, zero, suc, ◌+◌, ◌-◌, ◌*◌, ◌<◌, ◌≤◌, inl, inr, ◌==◌, List, [], ◌∷◌, ◌++◌, length, get_or, Some, ◌∙◌, ap, subst, arith}
-use Rattle.std.specs.List.{All, AllPairs, Contains, flat_map}
-use Rattle.std.proofs.lemmas.Bool.{eqb-true, cases_Bool}
-use Rattle.std.proofs.lemmas.Option.{same_Some}
-use Rattle.std.proofs.lemmas.List.{get_or-map, length-map}
-use Rattle.std.proofs.lemmas.List.Elements.{All-head, All-tail, All-cons, All-append, All-filter, filter_passes}
-use Rattle.std.proofs.lemmas.List.Kept.{AllPairs-filter}
-use Rattle.path_tree.specs.Paths.{Bytes}
-use Rattle.ddb_block.specs.Blocks.{block_count_of}
-use Rattle.dsi_dii.specs.declared.TheConstants.{BLOCK_SIZE}
-use Rattle.module_groups.specs.declared.TheConstants.{GROUP_SIZE}
-use Rattle.module_groups.proofs.CallerLemmas.{id_of_group}
-use Rattle.biop_object.specs.Names.{Layout, module_in}
-use Rattle.cycle_planner.specs.Cycle.{Line, IsGroupOf, AreLines, diis_of, blocks_of}
+use Rattle.carousel_profile.specs.declared.TheConstants.{BLOCK_SIZE}
+use Rattle.generation.proofs.Words.{All, AllPairs, Contains, flat_map, eqb-true, cases_Bool, same_Some, get_or-map, length-map, All-head, All-tail, All-cons, All-append, All-filter, filter_passes, AllPairs-filter, Bytes, block_count_of, GROUP_SIZE, id_of_group, Layout, module_in, Line, IsGroupOf, AreLines, diis_of, blocks_of, Dsi, Dii, all_diis, all_blocks_of, is_in_group, group_in, GenerationState, lines_in, lines_of, items_of, layout_at, HasDii, IsRising, Item, group_of}
 use Rattle.cycle_planner.specs.Places.{IsListed}
-use Rattle.cycle_planner.specs.declared.Item.{Item}
-use Rattle.cycle_planner.specs.declared.Item.TheVariants.{Dsi, Dii}
-use Rattle.cycle_planner.proofs.CallerLemmas.{all_diis, all_blocks_of}
-use Rattle.generation.specs.Groups.{group_of, is_in_group, group_in}
-use Rattle.generation.specs.Layouts.{GenerationState, lines_in, lines_of, items_of}
-use Rattle.generation.specs.Lawful.{layout_at, HasDii}
-use Rattle.generation.specs.View.{IsRising}
 
 -- ---- how many modules a DII lists
 

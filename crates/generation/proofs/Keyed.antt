@@ -1,16 +1,7 @@
 -- The keys of a generation's objects are apart and small: those that are kept, and those that are free.
 use Rattle.std.proofs.Common.{◌≡◌, ℕ, zero, suc, ◌+◌, ◌/◌, ◌%◌, ◌<◌, ◌≤◌, Bool, true, false, not, ◌||◌, ◌==◌, List, [], ◌∷◌, length, map, Option, Some, None, refl, sym, ◌∙◌, ap, subst, arith, get_or, inl, inr, ◌-◌, ◌++◌, cond, add-zero, append-nil, eqb}
-use Rattle.std.specs.List.{All, list_any, range_with_len, filter, find}
-use Rattle.std.specs.declared.cmp.Ordering.TheVariants.{Less}
-use Rattle.std.proofs.lemmas.Bool.{and_parts, not-true, or_from, or_parts, cond_both, cases_Bool, cases_eq, eq-eqb, ne_eqb, false_from_ne_true}
-use Rattle.std.proofs.lemmas.Bool.Decides.{nat_tests}
-use Rattle.std.proofs.lemmas.Option.{same_Some}
-use Rattle.std.proofs.lemmas.List.Elements.{All-cons, filter-append}
+use Rattle.generation.proofs.Words.{All, list_any, range_with_len, filter, find, Less, and_parts, not-true, or_from, or_parts, cond_both, cases_Bool, cases_eq, eq-eqb, ne_eqb, false_from_ne_true, nat_tests, same_Some, All-cons, filter-append, path_cmp, same_name, same_name-is, same_name-refl, same_path-is, AreRising, placed_at, key_in, old_keys, taken_in, free_keys, fill_keys, keys_of, is_same_spot, key_bytes, Spot, Placed}
 use Rattle.generation.proofs.Spotting.{less_differ}
-use Rattle.path_tree.specs.Paths.{path_cmp, same_name}
-use Rattle.path_tree.proofs.CallerLemmas.{same_name-is, same_name-refl, same_path-is}
-use Rattle.generation.specs.Publication.{Spot, AreRising}
-use Rattle.generation.specs.Layouts.{Placed, placed_at, key_in, old_keys, taken_in, free_keys, fill_keys, keys_of, is_same_spot, key_bytes}
 
 -- each number once
 abbrev pub Distinct : List ℕ → Type 0
@@ -74,9 +65,13 @@ free_all P test a (suc n) h =
 
 -- ---- kept keys
 
-found_passes : (p : Placed → Bool) (xs : List Placed) (o : Placed) → find p xs ≡ Some o → p o ≡ true
+pub found_passes : {A : Type 0} (p : A → Bool) (xs : List A) (o : A) → find p xs ≡ Some o → p o ≡ true
 found_passes p [] o e = cc
 found_passes p (x ∷ xs) o e = elim (cases_Bool (p x)) [ inl h ↦ subst (λ z. p z ≡ true) (same_Some x o (rw h at e)) h | inr h ↦ found_passes p xs o (rw h at e) ]
+
+pub found_all : {A : Type 0} (P : A → Type 0) (p : A → Bool) (xs : List A) → All P xs → (o : A) → find p xs ≡ Some o → P o
+found_all P p [] all o e = cc
+found_all P p (x ∷ xs) all o e = elim (cases_Bool (p x)) [ inl h ↦ subst P (same_Some x o (rw h at e)) (all 0 x (omega arith)) | inr h ↦ found_all P p xs (λ i d lt. all (suc i) d (omega (arith, lt))) o (rw h at e) ]
 
 found_key : (q : Placed → Bool) (xs : List Placed) (o : Placed) (k : ℕ) → find q xs ≡ Some o → list_any (λ j. j == k) (map (λ x. x.key) xs) ≡ false → (o.key == k) ≡ false
 found_key q [] o k e none = cc
@@ -120,13 +115,9 @@ kept_distinct old d (s ∷ ss) rising = go (placed_at old s) refl (kept_distinct
 kept_all : (P : ℕ → Type 0) (old : List Placed) → All (λ o. P o.key) old → (spots : List Spot) → All P (taken_in (old_keys old spots))
 kept_all P old all [] = λ i d lt. absurd (omega (arith, lt))
 kept_all P old all (s ∷ ss) = go (placed_at old s) refl (kept_all P old all ss) where
-  found : (q : Placed → Bool) (xs : List Placed) → All (λ o. P o.key) xs → (o : Placed) → find q xs ≡ Some o → P o.key
-  found q [] ax o e = cc
-  found q (x ∷ xs) ax o e = elim (cases_Bool (q x)) [ inl h ↦ subst (λ z. P z.key) (same_Some x o (rw h at e)) (ax 0 x (omega arith)) | inr h ↦ found q xs (λ i d lt. ax (suc i) d (omega (arith, lt))) o (rw h at e) ]
-
   go : (f : Option Placed) → placed_at old s ≡ f → All P (taken_in (old_keys old ss)) → All P (taken_in (key_in f ∷ old_keys old ss))
   go None h rest = rest
-  go (Some o) h rest = All-cons P o.key (taken_in (old_keys old ss)) (found (λ x. is_same_spot x.spot s) old all o h) rest
+  go (Some o) h rest = All-cons P o.key (taken_in (old_keys old ss)) (found_all (λ q. P q.key) (λ x. is_same_spot x.spot s) old all o h) rest
 
 -- ---- the keys
 

@@ -1,3 +1,4 @@
+pub mod Words
 pub mod Law
 pub mod Spotting
 pub mod Writing
@@ -8,9 +9,8 @@ pub mod Lists
 pub mod Numbering
 pub mod Rows
 pub mod Standing
-pub mod Linked
 pub mod Members
-pub mod Segmenting
+pub mod Passing
 pub mod Weighing
 pub mod Keyed
 pub mod Carrying

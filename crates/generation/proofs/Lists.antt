@@ -1,33 +1,11 @@
 -- A generation is the one that the lists of trees and layouts give, and so is the one after it.
 use Rattle.std.proofs.Common.{◌≡◌, ℕ, zero, suc, ◌+◌, ◌%◌, ◌<◌, ◌≤◌, false, ◌==◌, List, [], ◌∷◌, ◌++◌, length, take, map, Some, refl, sym, ◌∙◌, ap, subst, arith, get_or, inl, inr}
-use Rattle.std.proofs.lemmas.List.{get_or-map, length-map}
-use Rattle.std.proofs.lemmas.List.FromFn.{length-map-range_with_len, get_or-map-range_with_len}
-use Rattle.biop_object.specs.Objects.{gateway_kind}
-use Rattle.dsi_dii.specs.declared.ModuleLine.{ModuleLine}
-use Rattle.std.specs.List.{All, Contains, flat_map, fold, range_with_len, AllPairs}
-use Rattle.std.specs.Option.{unwrap_or}
-use Rattle.std.proofs.lemmas.Option.{same_Some}
-use Rattle.std.proofs.lemmas.List.Elements.{All-cons, All-append, Contains-append_left, Contains-append_right}
-use Rattle.std.proofs.lemmas.Bool.{cases_Bool, eqb-true, eq-eqb, ne_eqb}
+use Rattle.generation.proofs.Words.{get_or-map, length-map, length-map-range_with_len, get_or-map-range_with_len, ModuleLine, All, Contains, flat_map, fold, range_with_len, AllPairs, unwrap_or, same_Some, All-cons, All-append, Contains-append_left, Contains-append_right, cases_Bool, eqb-true, eq-eqb, ne_eqb, Bytes, Tree, Layout, module_in, Line, diis_of, blocks_of, IsGroupOf, Dsi, Dii, Block, block_count_of, DiiFields, dii_spelling, dsi_spelling, spelling, group_in, GenerationState, first_of, next_of, layout_of, items_of, lines_in, lines_of, section_of, dii_of, dii_lines, control_section, block_section, greatest, gateway_location, modules_for, placed_all, keys_of, counts_after, generation_of, layout_at, tree_at, count_of, version_in, dii_in, section_in, IsItem, HasDii, states_from, layouts_of, IsGenerationOf, GenerationsAreOfTheLists, StandsFor, all_diis, all_blocks_of, group_known, group_has, dii_contained, fold_push, spots_of, Item, dii_transaction, count_in, Placed, one_if_changed}
 use Rattle.generation.proofs.Placing.{rising}
-use Rattle.path_tree.specs.Paths.{Bytes}
-use Rattle.path_tree.specs.Trees.{Tree}
-use Rattle.biop_object.specs.Names.{Layout, module_in}
-use Rattle.cycle_planner.specs.Cycle.{Line, diis_of, blocks_of, IsGroupOf}
-use Rattle.cycle_planner.specs.declared.Item.{Item}
-use Rattle.cycle_planner.specs.declared.Item.TheVariants.{Dsi, Dii, Block}
-use Rattle.ddb_block.specs.Blocks.{block_count_of}
-use Rattle.dsi_dii.specs.Controls.{DiiFields, dii_spelling, dsi_spelling}
-use Rattle.dsmcc_section.specs.Sections.{spelling}
-use Rattle.generation.specs.Groups.{group_in, dii_transaction}
-use Rattle.generation.specs.Layouts.{GenerationState, first_of, next_of, count_in, layout_of, items_of, lines_in, lines_of, section_of, dii_of, dii_lines, control_section, block_section, greatest, gateway_location, Placed, modules_for, placed_all, keys_of, counts_after, generation_of}
-use Rattle.generation.specs.Lawful.{layout_at, tree_at, one_if_changed, count_of, version_in, dii_in, section_in, IsItem, HasDii}
-use Rattle.generation.specs.Kept.{states_from, layouts_of, IsGenerationOf, GenerationsAreOfTheLists, StandsFor}
+use Rattle.biop_object.specs.declared.reading.TheConstants.{GATEWAY}
 use Rattle.generation.proofs.Counting.{count_step}
 use Rattle.generation.proofs.Grouping.{dii_of_lines}
-use Rattle.cycle_planner.proofs.CallerLemmas.{all_diis, all_blocks_of, group_known, group_has, dii_contained}
-use Rattle.std.proofs.lemmas.List.Sums.{fold_push}
-use Rattle.generation.specs.Publication.{spots_of}
+use Rattle.carousel_profile.specs.declared.TheConstants.{BLOCK_SIZE}
 
 -- ---- the states on the way
 
@@ -113,11 +91,11 @@ blocks_in l = map (λ b. Block l.0 b) (range_with_len 0 l.1)
 
 -- the module of a line of the layout
 listed_at : (s : GenerationState) → s.layout ≡ layout_of s.carousel s.objects → (line : Line) → Contains (lines_of s) line
-    → (bytes : Bytes) × (module_in s.layout line.0 ≡ Some bytes) × (line.1 ≡ block_count_of (length bytes) 4066)
+    → (bytes : Bytes) × (module_in s.layout line.0 ≡ Some bytes) × (line.1 ≡ block_count_of (length bytes) BLOCK_SIZE)
 listed_at s made line c =
     let x = get_or s.layout c.0 (0, []) in
     let n : length (lines_of s) ≡ length s.layout = length-map s.layout _ in
-    let is : line ≡ (x.0, block_count_of (length x.1) 4066) = sym c.2 ∙ get_or-map (λ l. (l.0, block_count_of (length l.1) 4066)) s.layout c.0 (0, []) line (omega (arith, c.1, n)) in
+    let is : line ≡ (x.0, block_count_of (length x.1) BLOCK_SIZE) = sym c.2 ∙ get_or-map (λ l. (l.0, block_count_of (length l.1) BLOCK_SIZE)) s.layout c.0 (0, []) line (omega (arith, c.1, n)) in
     let up : AllPairs (λ m n. m.0 < n.0) s.layout = subst (AllPairs (λ m n. m.0 < n.0)) (sym made) (rising s.carousel s.objects 1 (greatest (map (λ o. o.module_id) s.objects))) in
     let found : module_in s.layout x.0 ≡ Some x.1 = once s.layout up c.0 (0, []) (omega (arith, c.1, n)) in
     (x.1, ap (λ (l : Line). module_in s.layout l.0) is ∙ found, ap (λ (l : Line). l.1) is)
@@ -142,18 +120,18 @@ item_is : (ls : List Layout) (g : ℕ) (s : GenerationState) → g < length ls �
 item_is ls g s within el made item has = subst (IsItem ls g) has.2 (all_items ls g s within el made has.0 item has.1)
 
 -- the blocks of a module of the layout stand among those of its lines
-block_listed : (layout : Layout) (m b : ℕ) (bytes : Bytes) → module_in layout m ≡ Some bytes → b < block_count_of (length bytes) 4066 → Contains (flat_map blocks_in (lines_in layout)) (Block m b)
+block_listed : (layout : Layout) (m b : ℕ) (bytes : Bytes) → module_in layout m ≡ Some bytes → b < block_count_of (length bytes) BLOCK_SIZE → Contains (flat_map blocks_in (lines_in layout)) (Block m b)
 block_listed [] m b bytes e lt = cc
 block_listed (l ∷ ls) m b bytes e lt = elim (cases_Bool (l.0 == m)) [
   | inl t ↦
-      let count = block_count_of (length l.1) 4066 in
-      let here : b < count = subst (λ c. b < block_count_of (length c) 4066) (sym (same_Some l.1 bytes (rw t at e))) lt in
+      let count = block_count_of (length l.1) BLOCK_SIZE in
+      let here : b < count = subst (λ c. b < block_count_of (length c) BLOCK_SIZE) (sym (same_Some l.1 bytes (rw t at e))) lt in
       Contains-append_left (blocks_in (l.0, count)) (flat_map blocks_in (lines_in ls)) (Block m b) (
         b,
         omega (arith, here, length-map-range_with_len (λ j. Block l.0 j) 0 count),
         get_or-map-range_with_len (λ j. Block l.0 j) 0 count b b (Block m b) here (omega arith) ∙ ap (λ i. Block i b) (eqb-true l.0 m t),
       )
-  | inr t ↦ Contains-append_right (blocks_in (l.0, block_count_of (length l.1) 4066)) (flat_map blocks_in (lines_in ls)) (Block m b) (block_listed ls m b bytes (rw t at e) lt)
+  | inr t ↦ Contains-append_right (blocks_in (l.0, block_count_of (length l.1) BLOCK_SIZE)) (flat_map blocks_in (lines_in ls)) (Block m b) (block_listed ls m b bytes (rw t at e) lt)
 ]
 
 item_listed : (ls : List Layout) (g : ℕ) (s : GenerationState) → s.layout ≡ layout_at ls g → (item : Item) → IsItem ls g item → Contains (items_of s) item
@@ -178,16 +156,16 @@ layout_made s e (t ∷ ts) (suc g) = layout_made (next_of s t) refl ts g
 
 dii_same : (c g : ℕ) (ls : List Layout) (s : GenerationState) → s.carousel ≡ c → s.number ≡ g → s.layout ≡ layout_at ls g → ((m : ℕ) → count_in s.counts m ≡ count_of ls g m) → (j : ℕ) → dii_of s j ≡ dii_in c ls g j
 dii_same c g ls s ec en el ek j =
-    ap (λ k. let d : DiiFields = record { download = k; block_size = 4066; transaction = dii_transaction s.number j; modules = dii_lines s.counts (group_in s.layout j) } in d) ec
-    ∙ (ap (λ n. let d : DiiFields = record { download = c; block_size = 4066; transaction = dii_transaction n j; modules = dii_lines s.counts (group_in s.layout j) } in d) en
-    ∙ ap (λ ms. let d : DiiFields = record { download = c; block_size = 4066; transaction = dii_transaction g j; modules = ms } in d)
+    ap (λ k. let d : DiiFields = record { download = k; block_size = BLOCK_SIZE; transaction = dii_transaction s.number j; modules = dii_lines s.counts (group_in s.layout j) } in d) ec
+    ∙ (ap (λ n. let d : DiiFields = record { download = c; block_size = BLOCK_SIZE; transaction = dii_transaction n j; modules = dii_lines s.counts (group_in s.layout j) } in d) en
+    ∙ ap (λ ms. let d : DiiFields = record { download = c; block_size = BLOCK_SIZE; transaction = dii_transaction g j; modules = ms } in d)
     (map_ext (λ m. record { id = m.0; size = length m.1; version = count_in s.counts m.0 % 256; compressed = false }) (λ m. record { id = m.0; size = length m.1; version = version_in ls g m.0; compressed = false })
     (λ m. ap (λ k. let l : ModuleLine = record { id = m.0; size = length m.1; version = k % 256; compressed = false } in l) (ek m.0)) (group_in s.layout j)
     ∙ ap (λ l. map (λ m. let x : ModuleLine = record { id = m.0; size = length m.1; version = version_in ls g m.0; compressed = false } in x) (group_in l j)) el))
 
 section_same : (c g : ℕ) (ls : List Layout) (s : GenerationState) → s.carousel ≡ c → s.number ≡ g → s.layout ≡ layout_at ls g → ((m : ℕ) → count_in s.counts m ≡ count_of ls g m)
     → (item : Item) → section_of s item ≡ section_in c ls g item
-section_same c g ls s ec en el ek Dsi = ap (λ k. spelling (control_section 0 (dsi_spelling 0x80000000 gateway_kind (gateway_location k)))) ec
+section_same c g ls s ec en el ek Dsi = ap (λ k. spelling (control_section 0 (dsi_spelling 0x80000000 GATEWAY (gateway_location k)))) ec
 section_same c g ls s ec en el ek (Dii j) =
     ap (λ n. spelling (control_section (dii_transaction n j % 65536) (dii_spelling (dii_of s j)))) en
     ∙ ap (λ d. spelling (control_section (dii_transaction g j % 65536) (dii_spelling d))) (dii_same c g ls s ec en el ek j)

@@ -1,32 +1,13 @@
 -- A path names in the modules what stands there: each folder holds what stands in it, and so on down; every module reads to its end, and every binding leads into a listed module.
 use Rattle.std.proofs.Common.{◌≡◌, ◌⊎◌, ℕ, suc, ◌+◌, ◌<◌, ◌≤◌, ◌==◌, false, List, [], ◌∷◌, ◌++◌, map, Option, Some, None, cond, refl, sym, ◌∙◌, ap, subst, inl, inr, arith, get_or, append-nil, ◌≢◌, zero, length}
-use Rattle.std.specs.List.{All, filter_map, find, cons_option, list_any, range_with_len, filter}
-use Rattle.std.proofs.lemmas.Bool.Decides.{nat_tests}
-use Rattle.std.proofs.lemmas.List.{get_or-map, get_or_default, length-map}
-use Rattle.std.proofs.lemmas.List.Elements.{All-head, All-tail, All-map, filter_map-append, All-cons}
-use Rattle.std.proofs.lemmas.Bool.{eq-eqb, cases_Bool, cases_eq, ne_eqb}
-use Rattle.path_tree.specs.Paths.{Bytes, PathNames, same_name}
-use Rattle.path_tree.specs.Trees.{Tree, Folder, NoSuch, node_at}
-use Rattle.path_tree.specs.Nestings.{Nesting, Empty, FileThen, FolderThen, names_in, in_file, stands_in, stands_at, nested}
-use Rattle.path_tree.proofs.CallerLemmas.{walk}
-use Rattle.ior_tap.specs.declared.Location.{Location}
-use Rattle.biop_object.specs.Names.{Layout, Thing, AFile, AFolder, thing_at, thing_named, location_in, location_of as location_from, module_in}
-use Rattle.biop_object.specs.Objects.{binding_of, Object, IsFile, IsFolder, BindingFields}
-use Rattle.biop_object.specs.Spelled.{SpellingsReadBack, spelled_object, spelled_objects}
-use Rattle.biop_object.specs.declared.written.Written.{Written}
-use Rattle.generation.specs.Publication.{Spot, gateway_spot, count_in, below, spots_in, spots_of, is_child}
-use Rattle.generation.specs.Layouts.{Placed, key_bytes, bound_of, gateway_location, location_of, entries_of, layout_of, is_in, module_bytes, module_if_used, greatest}
-use Rattle.generation.specs.Lawful.{IsNode, IsInside, Carries}
+use Rattle.generation.proofs.Words.{All, filter_map, find, cons_option, list_any, range_with_len, filter, nat_tests, get_or-map, get_or_default, length-map, All-head, All-tail, All-map, filter_map-append, All-cons, eq-eqb, cases_Bool, cases_eq, ne_eqb, Bytes, PathNames, same_name, Tree, NoSuch, node_at, Nesting, Empty, FileThen, FolderThen, names_in, in_file, stands_in, stands_at, nested, Location, Layout, Thing, AFile, AFolder, thing_at, thing_named, location_in, module_in, binding_of, Object, IsFile, IsFolder, BindingFields, SpellingsReadBack, spelled_object, spelled_objects, Written, gateway_spot, below, spots_in, spots_of, is_child, key_bytes, bound_of, gateway_location, location_of, layout_of, is_in, module_bytes, module_if_used, greatest, IsNode, IsInside, Carries, IsTrue, is_none, same_Some, identification_of, reads_to_end, GREATEST_ID, walk, Spot, Placed, entries_of, group_of}
+use Rattle.path_tree.specs.Trees.{Folder}
+use Rattle.biop_object.specs.Names.{location_of as location_from}
+use Rattle.generation.specs.Publication.{count_in}
 use Rattle.generation.proofs.Carrying.{seen, Sound, thing_found, all_in, in_all, spelled, module_found, module_index}
 use Rattle.generation.proofs.Numbering.{Numbered, numbered, number_at, all_numbered, InOne, parents_in, all_front, all_back, length-spots, all_unmap, option_cases}
-use Rattle.std.specs.Prelude.{IsTrue}
-use Rattle.std.specs.Option.{is_none}
-use Rattle.std.proofs.lemmas.Option.{same_Some}
 use Rattle.ior_tap.specs.Iors as iors
-use Rattle.dsi_dii.specs.Controls.{identification_of}
-use Rattle.biop_object.specs.ObjectReading.{objects_of, reads_to_end}
-use Rattle.module_groups.specs.declared.TheConstants.{GREATEST_ID}
-use Rattle.generation.specs.Groups.{group_of}
+use Rattle.biop_object.specs.ObjectReading.{index_of}
 
 -- where the object of a number lies
 abbrev pub Places : Type 0
@@ -349,8 +330,8 @@ carries law c t objects sound = record {
   to_end = to_end law c t objects sound;
   inside = λ m bytes key bindings e has.
       let is = listed_bytes c objects m bytes e in
-      let all : All (BindsInside (layout_of c objects) c) (objects_of bytes) =
-      subst (λ b. All (BindsInside (layout_of c objects) c) (objects_of b)) (sym is)
+      let all : All (BindsInside (layout_of c objects) c) (index_of bytes).0 =
+      subst (λ b. All (BindsInside (layout_of c objects) c) (index_of b).0) (sym is)
       (subst (λ i. All (BindsInside (layout_of c objects) c) i.0) (sym (module_index law c t objects sound m))
       (objects_inside c (layout_of c objects) objects (filter (is_in m) objects) (all_listed c t objects sound) 0)) in
       all has.0 (record { key = key; shape = IsFolder bindings }) has.1 key bindings has.2;

@@ -1,18 +1,8 @@
 -- The objects of a tree: their numbers, the folders that they stand in, their names and contents, and their order.
 use Rattle.std.proofs.Common.{◌≡◌, ℕ, zero, suc, ◌+◌, ◌<◌, ◌≤◌, true, false, List, [], ◌∷◌, ◌++◌, length, map, Option, Some, None, refl, sym, ◌∙◌, ap, subst, arith, get_or, length-append, ◌⊎◌, inl, inr}
-use Rattle.std.specs.List.{All, AllByRecursion}
-use Rattle.std.specs.declared.cmp.Ordering.TheVariants.{Less}
-use Rattle.std.proofs.lemmas.Option.{same_Some}
-use Rattle.std.proofs.lemmas.List.Elements.{All-cons, All-append, All-map, All-head, All-tail, recursion_from_All}
-use Rattle.std.proofs.lemmas.List.{length-map, get_or-map, get_or_default}
-use Rattle.generation.specs.Standing.{IsIn, IsNumbered}
-use Rattle.path_tree.specs.Paths.{Bytes, PathNames, name_cmp, path_cmp, IsName}
-use Rattle.path_tree.specs.Trees.{Tree, IsTree, HasContent, Fits}
-use Rattle.path_tree.specs.Nestings.{Nesting, Empty, FileThen, FolderThen, under, flat, nested, IsAfter, IsNesting}
-use Rattle.path_tree.specs.declared.entry.Entry.{Entry}
-use Rattle.path_tree.proofs.CallerLemmas.{name_cmp-refl, rises_tree, nested-flat, has_first}
-use Rattle.oc_bytes.specs.Numbers.{IsBytes}
-use Rattle.generation.specs.Publication.{Spot, gateway_spot, count_in, below, spots_in, spots_of, is_child, AreRising}
+use Rattle.generation.proofs.Words.{All, AllByRecursion, Less, same_Some, All-cons, All-append, All-map, All-head, All-tail, recursion_from_All, length-map, get_or-map, get_or_default, IsIn, IsNumbered, Bytes, PathNames, name_cmp, path_cmp, IsName, Tree, IsTree, HasContent, Nesting, Empty, FileThen, FolderThen, under, flat, nested, IsAfter, IsNesting, Entry, name_cmp-refl, rises_tree, nested-flat, has_first, IsBytes, gateway_spot, below, spots_in, spots_of, is_child, AreRising, Spot}
+use Rattle.path_tree.specs.Trees.{Fits}
+use Rattle.generation.specs.Publication.{count_in}
 
 -- something is there, or nothing
 pub option_cases : {A : Type 0} (o : Option A) → ((x : A) × (o ≡ Some x)) ⊎ (o ≡ None)

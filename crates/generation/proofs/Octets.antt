@@ -1,19 +1,10 @@
 -- What is written of objects are bytes.
 use Rattle.std.proofs.Common.{◌≡◌, ℕ, suc, ◌<◌, ◌≤◌, true, List, [], ◌∷◌, ◌++◌, length, Option, Some, None, refl, arith, nat_lt, lit<, inl, inr}
-use Rattle.std.specs.List.{All, filter, flat_map, list_all}
-use Rattle.std.proofs.lemmas.List.Elements.{All-cons, All-append}
-use Rattle.std.proofs.lemmas.Bool.{and_parts, ltb-true, cases_Bool, cond_both}
-use Rattle.oc_bytes.specs.Numbers.{IsBytes, two_bytes, four_bytes, eight_bytes}
-use Rattle.path_tree.specs.Paths.{Bytes}
-use Rattle.path_tree.specs.Trees.{Tree, IsTree}
+use Rattle.generation.proofs.Words.{All, filter, flat_map, list_all, All-cons, All-append, and_parts, ltb-true, cases_Bool, cond_both, IsBytes, two_bytes, four_bytes, eight_bytes, Bytes, Location, biop, kind_of, file_spelling, binding_spelling, bound_tail, bound_kind, FolderKind, Directory, Gateway, is_child, key_bytes, bound_of, folder_kind_of, object_bytes, is_in, module_bytes, Placed, entries_of}
 use Rattle.ior_tap.specs.Iors as iors
-use Rattle.ior_tap.specs.declared.Location.{Location}
-use Rattle.biop_object.specs.Objects.{biop, file_kind, directory_kind, kind_of, file_spelling, binding_spelling, bound_tail, bound_kind}
-use Rattle.biop_object.specs.declared.written.FolderKind.{FolderKind}
-use Rattle.biop_object.specs.declared.written.FolderKind.TheVariants.{Directory, Gateway}
-use Rattle.generation.specs.Publication.{Spot, spots_of, is_child}
-use Rattle.generation.specs.Layouts.{Placed, key_bytes, bound_of, entries_of, folder_kind_of, object_bytes, is_in, module_bytes}
-use Rattle.generation.proofs.Numbering.{all_valid, child_has, option_cases}
+use Rattle.ior_tap.specs.declared.tags.TheConstants.{BIOP_TAG, LOCATION_TAG, BINDER_TAG}
+use Rattle.biop_object.specs.declared.reading.TheConstants.{FILE, DIRECTORY}
+use Rattle.generation.proofs.Numbering.{child_has, option_cases, IsValidSpot}
 
 pub record Octets (xs : List ℕ) : Type 0 where
   pub all : IsBytes xs
@@ -46,7 +37,7 @@ message key kind info body ok_key small ok_kind ok_info ok_body =
     (both (both (both (both (both (both (more small ok_key) (four (length kind))) ok_kind) (two (length info))) ok_info) (more (lit< tt) (four (length body)))) ok_body)
 
 file : (k : ℕ) (b : Bytes) → IsBytes b → Octets (file_spelling (key_bytes k) b)
-file k b ok = message (key_bytes k) file_kind (eight_bytes (length b)) (four_bytes (length b) ++ b) (four k) (lit< tt) (tested file_kind refl) (eight (length b)) (both (four (length b)) (record { all = ok }))
+file k b ok = message (key_bytes k) FILE (eight_bytes (length b)) (four_bytes (length b) ++ b) (four k) (lit< tt) (tested FILE refl) (eight (length b)) (both (four (length b)) (record { all = ok }))
 
 tap : (m : ℕ) → Octets (iors.tap_bytes (iors.written_tap m))
 tap m =
@@ -57,36 +48,31 @@ location : (kind : List ℕ) (c m k : ℕ) → Octets kind → Octets (iors.spel
 location kind c m k ok =
     let l : Location = record { carousel = c; «module» = m; key = key_bytes k } in
     let place : Octets (four_bytes c ++ two_bytes m ++ 1 ∷ 0 ∷ 4 ∷ key_bytes k) = both (both (four c) (two m)) (more {x = 1} (lit< tt) (more {x = 0} (lit< tt) (more {x = 4} (lit< tt) (four k)))) in
-    let first : Octets (iors.component_bytes iors.location_tag (four_bytes c ++ two_bytes m ++ 1 ∷ 0 ∷ 4 ∷ key_bytes k)) = both (four iors.location_tag) (more {x = 13} (lit< tt) place) in
-    let second : Octets (iors.component_bytes iors.binder_tag (1 ∷ flat_map iors.tap_bytes (iors.written_tap m ∷ []))) =
-    both (four iors.binder_tag) (more {x = 18} (lit< tt) (more {x = 1} (lit< tt) (both (tap m) none))) in
+    let first : Octets (iors.component_bytes LOCATION_TAG (four_bytes c ++ two_bytes m ++ 1 ∷ 0 ∷ 4 ∷ key_bytes k)) = both (four LOCATION_TAG) (more {x = 13} (lit< tt) place) in
+    let second : Octets (iors.component_bytes BINDER_TAG (1 ∷ flat_map iors.tap_bytes (iors.written_tap m ∷ []))) =
+    both (four BINDER_TAG) (more {x = 18} (lit< tt) (more {x = 1} (lit< tt) (both (tap m) none))) in
     let profile : Octets (iors.biop_bytes l (iors.written_tap m ∷ [])) = both (more {x = 0} (lit< tt) (more {x = 2} (lit< tt) first)) second in
-    both (both (both (both (both (four 4) ok) (four 1)) (four iors.biop_tag)) (four (length (iors.biop_bytes l (iors.written_tap m ∷ []))))) profile
+    both (both (both (both (both (four 4) ok) (four 1)) (four BIOP_TAG)) (four (length (iors.biop_bytes l (iors.written_tap m ∷ []))))) profile
 
 kind_ok : (b : Option Bytes) → Octets (bound_kind (bound_of b))
-kind_ok (Some b) = tested file_kind refl
-kind_ok None = tested directory_kind refl
+kind_ok (Some b) = tested FILE refl
+kind_ok None = tested DIRECTORY refl
 
 tail : (b : Option Bytes) (c m k : ℕ) → Octets (bound_tail (bound_of b) (record { carousel = c; «module» = m; key = key_bytes k }))
-tail (Some b) c m k = both (both (more (lit< tt) (location file_kind c m k (tested file_kind refl))) (two 8)) (eight (length b))
-tail None c m k = both (more (lit< tt) (location directory_kind c m k (tested directory_kind refl))) (two 0)
+tail (Some b) c m k = both (both (more (lit< tt) (location FILE c m k (tested FILE refl))) (two 8)) (eight (length b))
+tail None c m k = both (more (lit< tt) (location DIRECTORY c m k (tested DIRECTORY refl))) (two 0)
 
 binding : (n : Bytes) (b : Option Bytes) (c m k : ℕ) → IsBytes n → length n ≤ 254 → Octets (binding_spelling (record { name = n; bound = bound_of b; location = record { carousel = c; «module» = m; key = key_bytes k } }))
 binding n b c m k ok small = both (both (more (lit< tt) (more (omega (arith, small)) (record { all = ok }))) (more (lit< tt) (more (lit< tt) (kind_ok b)))) (tail b c m k)
 
--- an object whose name and content are bytes
-pub record IsByteSpot (s : Spot) : Type 0 where
-  pub name : (p : ℕ) → s.parent ≡ Some p → IsBytes s.name × (length s.name ≤ 254)
-  pub content : (b : Bytes) → s.content ≡ Some b → IsBytes b
-
-entries : (c folder : ℕ) (os : List Placed) → All (λ o. IsByteSpot o.spot) os → Octets (flat_map binding_spelling (entries_of c os folder))
+entries : (c folder : ℕ) (os : List Placed) → All (λ o. IsValidSpot o.spot) os → Octets (flat_map binding_spelling (entries_of c os folder))
 entries c folder [] ok = none
 entries c folder (o ∷ os) ok =
     let rest = entries c folder os (λ i d lt. ok (suc i) d (omega (arith, lt))) in
     elim (cases_Bool (is_child folder o.spot)) [
       | inl e ↦
           let p = child_has folder o.spot e in
-          let h = (ok 0 o (omega arith)).name p.0 p.1 in rw e (both (binding o.spot.name o.spot.content c o.module_id o.key h.0 h.1) rest)
+          let h = (ok 0 o (omega arith)).name p.0 p.1 in rw e (both (binding o.spot.name o.spot.content c o.module_id o.key h.in_byte h.at_most) rest)
       | inr e ↦ rw e rest
     ]
 
@@ -94,20 +80,17 @@ folder_kind_ok : (kind : FolderKind) → Octets (kind_of kind)
 folder_kind_ok Directory = tested (kind_of Directory) refl
 folder_kind_ok Gateway = tested (kind_of Gateway) refl
 
-object : (c : ℕ) (objects : List Placed) → All (λ o. IsByteSpot o.spot) objects → (o : Placed) → IsByteSpot o.spot → Octets (object_bytes c objects o)
+object : (c : ℕ) (objects : List Placed) → All (λ o. IsValidSpot o.spot) objects → (o : Placed) → IsValidSpot o.spot → Octets (object_bytes c objects o)
 object c objects all o ok = elim (option_cases o.spot.content) [
-  | inl h ↦ rw h.1 (file o.key h.0 (ok.content h.0 h.1))
+  | inl h ↦ rw h.1 (file o.key h.0 (ok.bytes h.0 h.1))
   | inr h ↦ rw h (message (key_bytes o.key) (kind_of (folder_kind_of o.spot.path)) [] (two_bytes (length (entries_of c objects o.spot.number)) ++ flat_map binding_spelling (entries_of c objects o.spot.number))
       (four o.key) (lit< tt) (folder_kind_ok (folder_kind_of o.spot.path)) none (both (two _) (entries c o.spot.number objects all)))
 ]
 
-pub module_octets : (c : ℕ) (objects : List Placed) → All (λ o. IsByteSpot o.spot) objects → (m : ℕ) → IsBytes (module_bytes c objects m)
+pub module_octets : (c : ℕ) (objects : List Placed) → All (λ o. IsValidSpot o.spot) objects → (m : ℕ) → IsBytes (module_bytes c objects m)
 module_octets c objects all m = (go objects all).all where
-  go : (os : List Placed) → All (λ o. IsByteSpot o.spot) os → Octets (flat_map (object_bytes c objects) (filter (is_in m) os))
+  go : (os : List Placed) → All (λ o. IsValidSpot o.spot) os → Octets (flat_map (object_bytes c objects) (filter (is_in m) os))
   go [] ok = none
   go (o ∷ os) ok =
       let rest = go os (λ i d lt. ok (suc i) d (omega (arith, lt))) in
       cond_both (is_in m o) (o ∷ filter (is_in m) os) (filter (is_in m) os) (λ l. Octets (flat_map (object_bytes c objects) l)) (λ _. both (object c objects all o (ok 0 o (omega arith))) rest) (λ _. rest)
-
-pub tree_octets : (t : Tree) → IsTree t → All IsByteSpot (spots_of t)
-tree_octets t tree i d lt = let h = all_valid t tree i d lt in record { name = λ p e. ((h.name p e).in_byte, (h.name p e).at_most); content = h.bytes }

@@ -1,74 +1,33 @@
 -- The objects of a generation: as many keys and modules as objects, and the sizes of their bytes.
-use Rattle.std.proofs.Common.{◌≡◌, ℕ, zero, suc, ◌+◌, ◌-◌, ◌<◌, ◌≤◌, max, Bool, true, false, not, List, [], ◌∷◌, ◌++◌, length, map, Option, Some, None, cond, refl, sym, ◌∙◌, ap, arith, get_or, length-append, append-nil, ◌==◌, nat_lt, nat_le, sum, inl, inr}
-use Rattle.std.specs.List.{All, find, sum_by, filter, filter_map, flat_map, list_any, range_with_len, fold, cons_option, AllPairs}
-use Rattle.std.proofs.lemmas.Bool.Decides.{nat_tests}
-use Rattle.std.proofs.lemmas.List.Sums.{sum_by-cons}
-use Rattle.std.proofs.lemmas.List.Elements.{All-cons, filter_map-append, All-nil}
-use Rattle.std.proofs.lemmas.List.{map-append, get_or-map, length-map}
-use Rattle.module_groups.specs.declared.TheConstants.{GREATEST_ID}
-use Rattle.path_tree.specs.Paths.{Bytes}
-use Rattle.path_tree.specs.Trees.{Tree, IsTree}
-use Rattle.biop_object.specs.Objects.{folder_spelling, binding_spelling, bound_tail, bound_kind}
-use Rattle.biop_object.specs.declared.written.FolderKind.{FolderKind}
-use Rattle.biop_object.specs.declared.written.FolderKind.TheVariants.{Directory, Gateway}
-use Rattle.std.proofs.lemmas.List.FromFn.{length-range_with_len}
-use Rattle.std.proofs.lemmas.Bool.{cases_Bool, or_cases, cond_both, ltb-false, le-leb, lt-leb, cond-true, cond-false, not-false}
-use Rattle.std.proofs.lemmas.List.Kept.{AllPairs-cons}
+use Rattle.std.proofs.Common.{◌≡◌, ◌||◌, ℕ, zero, suc, ◌+◌, ◌-◌, ◌<◌, ◌≤◌, max, Bool, true, false, not, List, [], ◌∷◌, ◌++◌, length, map, Option, Some, None, refl, sym, ◌∙◌, ap, arith, get_or, length-append, append-nil, ◌==◌, nat_lt, sum, inl, inr}
+use Rattle.generation.proofs.Words.{ne_eqb, eq-eqb, cases_eq, All, find, sum_by, filter, filter_map, flat_map, list_any, range_with_len, fold, cons_option, AllPairs, sum_by-cons, All-cons, filter_map-append, All-nil, map-append, get_or-map, length-map, GREATEST_ID, Bytes, Tree, IsTree, folder_spelling, binding_spelling, bound_tail, bound_kind, FolderKind, Directory, Gateway, length-range_with_len, cases_Bool, ltb-false, AllPairs-cons, modules_needed, size_of, spots_of, sizes_of, binding_size, binding_rest, is_child, is_large_folder, large_folder, limit_of, or_else, over, Passed, Objects, Total, Modules, placed_all, fill_keys, free_keys, taken_in, old_keys, keys_of, written_in, object_bytes, key_bytes, location_of, bound_of, folder_kind_of, is_in, module_bytes, module_if_used, layout_of, greatest, IsBelow, view_spot, view_placed, placed_from, IsSpotIn, AreFoldered, AreReady, CodeSpot, CodePlaced, Spot, Placed, entries_of}
 use Rattle.generation.proofs.Keyed.{range_more}
 use Rattle.oc_bytes.specs.Outcome.{cap_at_u64, cap_at_u32}
-use Rattle.module_packer.specs.Placement.{modules_needed}
-use Rattle.generation.specs.declared.spots.Spot.{Spot as CodeSpot}
-use Rattle.generation.specs.declared.objects.Placed.{Placed as CodePlaced}
-use Rattle.generation.specs.Publication.{Spot, size_of, spots_of, sizes_of, binding_size, binding_rest, is_child, is_large_folder, large_folder, limit_of, or_else, over, Passed, Objects, Total, Modules}
-use Rattle.generation.specs.Layouts.{Placed, placed_all, fill_keys, free_keys, taken_in, old_keys, keys_of, written_in, entries_of, object_bytes, key_bytes, location_of, bound_of, folder_kind_of, is_in, module_bytes, module_if_used, layout_of, greatest}
-use Rattle.generation.specs.Inner.Linking.{IsBelow}
-use Rattle.generation.specs.View.{view_spot, view_placed, placed_from, IsSpotIn, AreFoldered, AreReady}
 use Rattle.generation.proofs.Numbering.{number_at, all_numbered, all_in_folders, all_unmap, option_cases}
 
 -- ---- keys
 
-above : ℕ → List ℕ → ℕ
-above a [] = 0
-above a (j ∷ js) = cond (nat_le a j) 1 0 + above a js
+-- numbers past one aren't it
+kept_past : (p : ℕ → Bool) (t a n : ℕ) → t < a → length (filter (λ k. not ((t == k) || p k)) (range_with_len a n)) ≡ length (filter (λ k. not (p k)) (range_with_len a n))
+kept_past p t a zero lt = refl
+kept_past p t a (suc n) lt =
+    let rest = kept_past p t (a + 1) n (omega (arith, lt)) in
+    rw (ne_eqb t a (λ e. omega (arith, lt, e))) (elim (cases_Bool (p a)) [ inl h ↦ rw h rest | inr h ↦ rw h (ap suc rest) ])
 
-above_less : (a : ℕ) (js : List ℕ) → above (a + 1) js ≤ above a js
-unfolding above
-above_less a [] = omega arith
-above_less a (j ∷ js) = go (nat_le (a + 1) j) (nat_le a j) refl refl (above_less a js) where
-  go : (x y : Bool) → nat_le (a + 1) j ≡ x → nat_le a j ≡ y → above (a + 1) js ≤ above a js → cond x 1 0 + above (a + 1) js ≤ cond y 1 0 + above a js
-  go true true ex ey h = omega (arith, h)
-  go false true ex ey h = omega (arith, h)
-  go true false ex ey h = absurd (grind (arith, nat_tests, ex, ey))
-  go false false ex ey h = omega (arith, h)
+-- so that one number more takes one at most
+one_lost : (p : ℕ → Bool) (t a n : ℕ) → length (filter (λ k. not (p k)) (range_with_len a n)) ≤ length (filter (λ k. not ((t == k) || p k)) (range_with_len a n)) + 1
+one_lost p t a zero = omega arith
+one_lost p t a (suc n) = elim (cases_eq t a) [
+  | inl is ↦ let past = kept_past p t (a + 1) n (omega (arith, is)) in rw (eq-eqb t a is) (elim (cases_Bool (p a)) [ inl h ↦ rw h (omega (arith, past)) | inr h ↦ rw h (omega (arith, past)) ])
+  | inr ne ↦ let rest = one_lost p t (a + 1) n in rw (ne_eqb t a ne) (elim (cases_Bool (p a)) [ inl h ↦ rw h rest | inr h ↦ rw h (omega (arith, rest)) ])
+]
 
-above_taken : (a : ℕ) (js : List ℕ) → list_any (λ j. j == a) js ≡ true → above (a + 1) js + 1 ≤ above a js
-unfolding above
-above_taken a [] e = cc
-above_taken a (j ∷ js) e = elim (or_cases (j == a) (list_any (λ k. k == a) js) e) [
-  | inl here ↦ let is : j ≡ a = grind (arith, nat_tests, here) in first j is (above_less a js)
-  | inr later ↦ rest (above_taken a js later) (above_less a (j ∷ []))
-] where
-  first : (j : ℕ) → j ≡ a → above (a + 1) js ≤ above a js → cond (nat_le (a + 1) j) 1 0 + above (a + 1) js + 1 ≤ cond (nat_le a j) 1 0 + above a js
-  first j is h =
-      let past : cond {A = ℕ} (nat_le (a + 1) j) 1 0 ≡ 0 = cond-false (nat_le (a + 1) j) 1 0 (lt-leb (a + 1) j (omega (arith, is))) in
-      let here : cond {A = ℕ} (nat_le a j) 1 0 ≡ 1 = cond-true (nat_le a j) 1 0 (le-leb a j (omega (arith, is))) in
-      omega (arith, h, past, here)
-
-  rest : above (a + 1) js + 1 ≤ above a js → cond (nat_le (a + 1) j) 1 0 + 0 ≤ cond (nat_le a j) 1 0 + 0 → cond (nat_le (a + 1) j) 1 0 + above (a + 1) js + 1 ≤ cond (nat_le a j) 1 0 + above a js
-  rest h bits = omega (arith, h, bits)
-
-above_all : (a : ℕ) (js : List ℕ) → above a js ≤ length js
-unfolding above
-above_all a [] = omega arith
-above_all a (j ∷ js) = let h = above_all a js in cond_both {A = ℕ} (nat_le a j) 1 0 (λ n. n + above a js ≤ suc (length js)) (λ _. omega (arith, h)) (λ _. omega (arith, h))
-
-many_free : (taken : List ℕ) (a n : ℕ) → n ≤ length (filter (λ k. not (list_any (λ j. j == k) taken)) (range_with_len a n)) + above a taken
-many_free taken a zero = omega arith
-many_free taken a (suc n) =
-    let rest = filter (λ k. not (list_any (λ j. j == k) taken)) (range_with_len (a + 1) n) in
-    let h = many_free taken (a + 1) n in
-    cond_both (not (list_any (λ j. j == a) taken)) (a ∷ rest) rest (λ l. suc n ≤ length l + above a taken)
-    (λ _. omega (arith, h, above_less a taken)) (λ e. omega (arith, h, above_taken a taken (not-false (list_any (λ j. j == a) taken) e)))
+many_free : (taken : List ℕ) (a n : ℕ) → n ≤ length (filter (λ k. not (list_any (λ j. j == k) taken)) (range_with_len a n)) + length taken
+many_free [] a n = let h : length (filter (λ k. not (list_any (λ j. j == k) [])) (range_with_len a n)) ≡ n = all a n in omega (arith, h) where
+  all : (a n : ℕ) → length (filter (λ (k : ℕ). true) (range_with_len a n)) ≡ n
+  all a zero = refl
+  all a (suc n) = ap suc (all (a + 1) n)
+many_free (t ∷ ts) a n = omega (arith, many_free ts a n, one_lost (λ k. list_any (λ j. j == k) ts) t a n)
 
 nones : List (Option ℕ) → ℕ
 nones [] = 0
@@ -93,8 +52,7 @@ length-keys_of old spots =
     let keys = old_keys old spots in
     let n : length keys ≡ length spots = length-map spots _ in
     let many = many_free (taken_in keys) 2 (length spots) in
-    let most = above_all 2 (taken_in keys) in
-    length-filled keys (free_keys (taken_in keys) (length spots)) (omega (arith, many, most, n, nones_rest keys)) ∙ n
+    length-filled keys (free_keys (taken_in keys) (length spots)) (omega (arith, many, n, nones_rest keys)) ∙ n
 
 -- ---- objects
 

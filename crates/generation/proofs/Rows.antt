@@ -1,8 +1,7 @@
 -- Worked rows, by computation: kept folders among the objects.
 use Rattle.std.proofs.Common.{◌≡◌, [], ◌∷◌, None, Some, map, refl, ℕ, Option}
-use Rattle.path_tree.specs.Trees.{Tree}
+use Rattle.generation.proofs.Words.{Tree, spots_of, sizes_of, limit_of}
 use Rattle.path_tree.specs.declared.entry.Entry.TheVariants as entries
-use Rattle.generation.specs.Publication.{spots_of, sizes_of, limit_of}
 
 -- a kept folder /d alone, and /d with /d/x in it
 abbrev kept : Tree

@@ -1,19 +1,9 @@
 -- Listed modules, which rise by id, are found by halves, and so are the two places between which those of a group stand.
-use Rattle.std.proofs.Common.{◌≡◌, ℕ, zero, suc, ◌<◌, ◌≤◌, ◌∙◌, true, false, cond, List, [], ◌∷◌, length, map, get_or, Some, None, refl, ap, arith, inl, inr, ◌+◌, ◌-◌, Bool, take, drop, sym, subst, ◌++◌, ◌==◌}
+use Rattle.std.proofs.Common.{◌≡◌, ℕ, zero, suc, ◌<◌, ◌≤◌, ◌∙◌, true, false, List, [], ◌∷◌, length, map, get_or, Some, None, refl, ap, arith, inl, inr, ◌+◌, ◌-◌, Bool, take, drop, sym, subst, ◌++◌, ◌==◌}
 use Rattle.std.specs.Prelude.{nat_lt}
+use Rattle.generation.proofs.Words.{find, option_map, eq-eqb, ne_eqb, ltb-true, ltb-false, cases_eq, cases_lt, cases_Bool, get_or-map, get_or_default, length-map, get_or-take, Bytes, module_in, IsRising, view_listed, Listed, IsPartitionedBy-ltb, split_between, All-tail, filter-append, All, filter, groups_rise, group_in, group_of}
 use Rattle.std.specs.List.Sorted.{IsNonDecreasingBy, IsPartitionPoint, IsPartitionedBy}
-use Rattle.std.proofs.lemmas.Bool.{eq-eqb, ne_eqb, ltb-true, ltb-false, cases_eq, cases_lt, cases_Bool}
-use Rattle.std.proofs.lemmas.List.{get_or-map, get_or_default, length-map, length-take, length-drop, get_or-take, get_or-drop, append-nil}
-use Rattle.path_tree.specs.Paths.{Bytes}
-use Rattle.biop_object.specs.Names.{module_in}
-use Rattle.generation.specs.View.{IsRising, view_listed}
-use Rattle.generation.specs.declared.made.Listed.{Listed}
-use Rattle.std.proofs.lemmas.List.Sorted.{IsPartitionedBy-ltb}
-use Rattle.std.proofs.lemmas.List.Edits.{split_between}
-use Rattle.std.proofs.lemmas.List.Elements.{All-tail, filter-append}
-use Rattle.std.specs.List.{All, filter}
-use Rattle.module_groups.proofs.CallerLemmas.{groups_rise}
-use Rattle.generation.specs.Groups.{group_of, group_in}
+use Rattle.std.proofs.lemmas.List.{length-take, length-drop, get_or-drop, append-nil}
 use Rattle.generation.specs.Inner.Halves.{IsFirstOfGroup}
 
 -- what stands where no module does
@@ -38,21 +28,21 @@ ids_up ms is i j d le inside = elim (cases_eq i j) [
 ]
 
 -- the first module of an id, at its place
-found_at : (ms : List Listed) (k id : ℕ) → ((i : ℕ) → i < k → (get_or ms i nothing).id < id) → k < length ms → (get_or ms k nothing).id ≡ id
-    → module_in (map view_listed ms) id ≡ Some (get_or ms k nothing).bytes
+found_at : (ms : List Listed) (k id : ℕ) → ((i : ℕ) → i < k → (get_or ms i nothing).id < id) → k < length ms → (get_or ms k nothing).id ≡ id → find (λ l. l.id == id) ms ≡ Some (get_or ms k nothing)
 found_at [] k id low inside e = absurd (omega (arith, inside))
-found_at (m ∷ ms) zero id low inside e = ap (λ b. cond b (Some m.bytes) (module_in (map view_listed ms) id)) (eq-eqb m.id id e)
+found_at (m ∷ ms) zero id low inside e = rw (eq-eqb m.id id e) refl
 found_at (m ∷ ms) (suc k) id low inside e =
     let other : m.id < id = low 0 (omega arith) in
-    ap (λ b. cond b (Some m.bytes) (module_in (map view_listed ms) id)) (ne_eqb m.id id (λ same. omega (arith, other, same)))
-    ∙ found_at ms k id (λ i lt. low (suc i) (omega (arith, lt))) (omega (arith, inside)) e
+    rw (ne_eqb m.id id (λ same. omega (arith, other, same))) (found_at ms k id (λ i lt. low (suc i) (omega (arith, lt))) (omega (arith, inside)) e)
 
 -- and none, where no module has the id
-absent_in : (ms : List Listed) (id : ℕ) → ((i : ℕ) → i < length ms → (get_or ms i nothing).id ≡ id → ⊥) → module_in (map view_listed ms) id ≡ None
+absent_in : (ms : List Listed) (id : ℕ) → ((i : ℕ) → i < length ms → (get_or ms i nothing).id ≡ id → ⊥) → find (λ l. l.id == id) ms ≡ None
 absent_in [] id other = refl
-absent_in (m ∷ ms) id other =
-    ap (λ b. cond b (Some m.bytes) (module_in (map view_listed ms) id)) (ne_eqb m.id id (λ same. other 0 (omega arith) same))
-    ∙ absent_in ms id (λ i lt same. other (suc i) (omega (arith, lt)) same)
+absent_in (m ∷ ms) id other = rw (ne_eqb m.id id (λ same. other 0 (omega arith) same)) (absent_in ms id (λ i lt same. other (suc i) (omega (arith, lt)) same))
+
+pub listed_in : (ms : List Listed) (id : ℕ) → module_in (map view_listed ms) id ≡ option_map (λ l. l.bytes) (find (λ l. l.id == id) ms)
+listed_in [] id = refl
+listed_in (m ∷ ms) id = elim (cases_Bool (m.id == id)) [ inl h ↦ rw h refl | inr h ↦ rw h (listed_in ms id) ]
 
 -- the place before which ids are lower
 abbrev pub IsFirst : List Listed → ℕ → ℕ → Type 0
@@ -62,13 +52,13 @@ lower : (ms : List Listed) (id first : ℕ) → IsFirst ms id first → (i : ℕ
 lower ms id first point i lt = ltb-true _ id (point.0 i nothing (omega arith) lt)
 
 pub module_found_at : (ms : List Listed) (id first : ℕ) (d : Listed) → IsFirst ms id first → first < length ms → (get_or ms first d).id ≡ id
-    → module_in (map view_listed ms) id ≡ Some (get_or ms first d).bytes
+    → find (λ l. l.id == id) ms ≡ Some (get_or ms first d)
 module_found_at ms id first d point inside e =
     let same : get_or ms first nothing ≡ get_or ms first d = get_or_default ms first nothing d inside in
-    found_at ms first id (lower ms id first point) inside (ap (λ (l : Listed). l.id) same ∙ e) ∙ ap (λ (l : Listed). Some l.bytes) same
+    found_at ms first id (lower ms id first point) inside (ap (λ (l : Listed). l.id) same ∙ e) ∙ ap Some same
 
 pub no_module_at : (ms : List Listed) (id first : ℕ) → IsRising (map view_listed ms) → IsFirst ms id first → (first < length ms → (d : Listed) → (get_or ms first d).id ≡ id → ⊥)
-    → module_in (map view_listed ms) id ≡ None
+    → find (λ l. l.id == id) ms ≡ None
 no_module_at ms id first is point other = absent_in ms id each where
   each : (i : ℕ) → i < length ms → (get_or ms i nothing).id ≡ id → ⊥
   each i inside e = elim (cases_lt i first) [

@@ -1,34 +1,13 @@
 -- The objects of one tree beside those of another: they are found in one pass, since both stand in the order of paths, and modules whose objects are as before have the same bytes.
 use Rattle.std.proofs.Common.{◌≡◌, ◌≢◌, ℕ, zero, suc, ◌<◌, Bool, true, false, List, [], ◌∷◌, ◌++◌, length, take, Some, None, Ok, refl, sym, ◌∙◌, ap, subst, arith, get_or, set, ◌⊎◌, inl, inr, ◌+◌, drop, map, Option, cond, append_assoc}
-use Rattle.std.specs.Prelude.{slice_get}
-use Rattle.std.specs.List.{All, AllByRecursion}
-use Rattle.std.specs.Option.{option_map}
-use Rattle.std.specs.Ordering.{is_eq, is_lt, ordering_reverse}
-use Rattle.std.specs.declared.cmp.Ordering.{Ordering}
-use Rattle.std.specs.declared.cmp.Ordering.TheVariants.{Less, Equal, Greater}
-use Rattle.std.proofs.Math.Seq.{take-length}
-use Rattle.std.proofs.lemmas.Option.{same_Some}
-use Rattle.std.proofs.lemmas.List.Elements.{All-push, All-head, All-tail}
-use Rattle.generation.proofs.Spotting.{paths_differ, less_differ, kind_apart, kind_same}
-use Rattle.path_tree.specs.Paths.{Bytes, PathNames, path_cmp, same_name, same_path}
-use Rattle.path_tree.specs.Trees.{Tree, IsTree, file_in, entry_at, content_at}
+use Rattle.generation.proofs.Words.{Entry, is_a_file, content_in, item_at, same_kind, slice_get, All, AllByRecursion, option_map, is_eq, is_lt, ordering_reverse, Ordering, Less, Equal, Greater, take-length, same_Some, All-push, All-head, All-tail, Bytes, PathNames, path_cmp, same_name, same_path, Tree, IsTree, file_in, entry_at, content_at, path_cmp-is, same_name-refl, same_path-refl, Apart, Rises, rises_tree, path_total, Layout, module_in, key_bytes, object_bytes, module_bytes, layout_of, same_module, placed_at, key_in, module_of, is_same_spot, AreAsBefore, SameModules, AreTheirs, view_placed, view_spot, path_at, bytes_at, is_file_at, IsSpotIn, file_spelling, drop_more, cond_both, AreRising, from_path, first_same, Placed, CodePlaced, CodeSpot, Spot}
+use Rattle.generation.proofs.Spotting.{paths_differ, less_differ}
 use Rattle.path_tree.specs.declared.entry.Entry.TheVariants as entries
 use Rattle.path_tree.specs.Edits.{apply_all, path_in, OthersStay}
 use Rattle.path_tree.specs.declared.tree.Edit.{Edit}
-use Rattle.path_tree.proofs.CallerLemmas.{path_cmp-is, same_name-refl, same_path-refl, Item, Apart, Rises, rises_tree, path_total}
-use Rattle.biop_object.specs.Names.{Layout, module_in}
-use Rattle.generation.specs.Layouts.{Placed, key_bytes, object_bytes, module_bytes, layout_of, same_module, placed_at, key_in, module_of, is_same_spot}
-use Rattle.generation.specs.Inner.Stays.{AreAsBefore, SameModules, AreTheirs}
-use Rattle.generation.specs.View.{view_placed, view_spot, path_at, bytes_at, is_file_at, IsSpotIn}
-use Rattle.generation.specs.declared.objects.Placed.{Placed as CodePlaced}
-use Rattle.generation.specs.declared.spots.Spot.{Spot as CodeSpot}
-use Rattle.biop_object.specs.Objects.{file_spelling}
-use Rattle.std.proofs.lemmas.List.{drop_more}
-use Rattle.std.proofs.lemmas.Bool.{cond_both}
+use Rattle.path_tree.proofs.CallerLemmas.{Item}
 use Rattle.generation.proofs.Naming.{listed_bytes}
 use Rattle.generation.proofs.Numbering.{all_unmap}
-use Rattle.generation.specs.Publication.{Spot, AreRising}
-use Rattle.generation.specs.Inner.Merging.{from_path, first_same}
 
 -- ---- a tree's entries by number
 
@@ -46,17 +25,15 @@ here_in (e ∷ es) (suc i) d r lt =
     let apart : same_path (path_at es i) e.0 ≡ false = paths_differ (path_at es i) e.0 (λ h. less_differ e.0 (path_at es i) less (sym h)) in
     rw apart (here_in es i d r.1.1 (omega (arith, lt)))
 
-file_here : (t : Tree) (i : ℕ) (d : Item) → i < length t → is_file_at t i ≡ true → file_in (Some (get_or t i d).1) ≡ Some (bytes_at t i)
-file_here [] i d lt file = absurd (omega (arith, lt))
-file_here ((p, entries.File b) ∷ es) zero d lt file = refl
-file_here ((p, entries.Folder) ∷ es) zero d lt file = cc
-file_here (e ∷ es) (suc i) d lt file = file_here es i d (omega (arith, lt)) file
+file_here : (x : Entry) → is_a_file x ≡ true → file_in (Some x) ≡ Some (content_in x)
+file_here (entries.File b) file = refl
+file_here entries.Folder file = cc
 
-no_item : Item
+abbrev no_item : Item
 no_item = ([], entries.Folder)
 
 pub content_here : (t : Tree) (i : ℕ) → IsTree t → i < length t → is_file_at t i ≡ true → content_at t (path_at t i) ≡ Some (bytes_at t i)
-content_here t i tree lt file = ap file_in (here_in t i no_item (rises_tree t tree) lt) ∙ file_here t i no_item lt file
+content_here t i tree lt file = ap file_in (here_in t i no_item (rises_tree t tree) lt) ∙ file_here (item_at t i).1 file
 
 once_in : (t : Tree) (i j : ℕ) → Rises t → i < length t → j < length t → path_at t i ≡ path_at t j → i ≡ j
 once_in [] i j r li lj e = absurd (omega (arith, li))
@@ -155,8 +132,6 @@ pub equal_order : (o : Ordering) → is_eq o ≡ true → o ≡ Equal
 equal_order Less e = cc
 equal_order Equal e = refl
 equal_order Greater e = cc
-
--- ---- objects of one tree are found among those of another
 
 -- ---- the order of paths
 
@@ -273,25 +248,19 @@ none_here t s os i d lt e =
     let apart : same_path o.spot.path s.path ≡ false = more_apart o.spot.path s.path (paths_greater o.spot.path s.path e) in
     rw (drop_more os i d lt, apart) refl
 
-bools : (a b : Bool) → (a ≡ b) ⊎ (a ≢ b)
-bools true true = inl refl
-bools true false = inr (λ h. cc)
-bools false true = inr (λ h. cc)
-bools false false = inl refl
-
 one_object : (t u : Tree) (s : CodeSpot) (o : CodePlaced) (found : Option CodePlaced) → path_cmp (view_placed t o).spot.path (view_spot u s).path ≡ Equal
     → (o.spot.whole ≡ s.whole → found ≡ Some o) → (o.spot.whole ≢ s.whole → found ≡ None)
     → option_map (view_placed t) found ≡ cond (is_same_spot (view_placed t o).spot (view_spot u s)) (Some (view_placed t o)) None
-one_object t u s o found e has lacks = elim (bools o.spot.whole s.whole) [
-  | inl h ↦
-      let both : is_same_spot (view_placed t o).spot (view_spot u s) ≡ true = kind_same o.spot.whole s.whole _ (bytes_at t o.spot.entry) (bytes_at u s.entry) h ∙ same in
-      ap (option_map (view_placed t)) (has h) ∙ sym (ap (λ b. cond b (Some (view_placed t o)) None) both)
-  | inr h ↦
-      let other : is_same_spot (view_placed t o).spot (view_spot u s) ≡ false = kind_apart o.spot.whole s.whole _ (bytes_at t o.spot.entry) (bytes_at u s.entry) h in
-      ap (option_map (view_placed t)) (lacks h) ∙ sym (ap (λ b. cond b (Some (view_placed t o)) None) other)
-] where
+one_object t u s o found e has lacks = rw same (go o.spot.whole s.whole has lacks) where
   same : same_path (view_placed t o).spot.path (view_spot u s).path ≡ true
   same = subst (λ z. same_path (view_placed t o).spot.path z ≡ true) (path_cmp-is (view_placed t o).spot.path (view_spot u s).path e) (same_path-refl (view_placed t o).spot.path)
+
+  go : (a b : Bool) → (a ≡ b → found ≡ Some o) → (a ≢ b → found ≡ None)
+      → option_map (view_placed t) found ≡ cond (same_kind (cond a (Some (bytes_at t o.spot.entry)) None) (cond b (Some (bytes_at u s.entry)) None)) (Some (view_placed t o)) None
+  go true true has lacks = ap (option_map (view_placed t)) (has refl)
+  go true false has lacks = ap (option_map (view_placed t)) (lacks (λ h. cc))
+  go false true has lacks = ap (option_map (view_placed t)) (lacks (λ h. cc))
+  go false false has lacks = ap (option_map (view_placed t)) (has refl)
 
 pub one_here : (t u : Tree) (s : CodeSpot) (os : List CodePlaced) (i : ℕ) (d : CodePlaced) (found : Option CodePlaced) → i < length os
     → path_cmp (view_placed t (get_or os i d)).spot.path (view_spot u s).path ≡ Equal

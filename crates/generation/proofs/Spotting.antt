@@ -1,54 +1,23 @@
 -- Objects that are named by an entry and a number of names, and the order of paths and of the first names of paths.
-use Rattle.std.proofs.Common.{◌≡◌, ◌≢◌, ℕ, zero, suc, ◌+◌, ◌<◌, ◌≤◌, ◌==◌, Bool, true, false, ◌&&◌, [], ◌∷◌, length, take, Some, None, cond, refl, sym, ◌∙◌, ap, subst, add-one, arith, get_or, drop, length-take, min}
-use Rattle.std.specs.Prelude.{slice_get}
-use Rattle.std.specs.List.{All}
-use Rattle.std.proofs.lemmas.Bool.{eq-eqb, ne_eqb, and_right, false_from_ne_true}
-use Rattle.std.proofs.lemmas.List.Elements.{All-head, All-tail}
-use Rattle.std.proofs.lemmas.Option.{get_or_from_slice_get, slice_get_within, same_Some}
-use Rattle.path_tree.specs.Paths.{Bytes, PathNames, IsPath, IsName, same_name, name_cmp, path_cmp, same_path}
-use Rattle.path_tree.specs.Trees.{Tree, is_a_file}
-use Rattle.path_tree.specs.declared.entry.Entry.{Entry}
-use Rattle.generation.specs.declared.spots.Spot.{Spot as CodeSpot}
-use Rattle.generation.specs.Publication.{Spot}
-use Rattle.generation.specs.Layouts.{same_kind}
-use Rattle.generation.specs.View.{path_at, bytes_at, is_file_at, last_of, view_spot, IsSpotIn, content_in}
-use Rattle.generation.specs.Inner.Segments.{name_at, first_inside, first_spot}
-use Rattle.std.specs.Ordering.{nat_cmp, ordering_then}
-use Rattle.std.specs.declared.cmp.Ordering.{Ordering}
-use Rattle.std.specs.declared.cmp.Ordering.TheVariants.{Less, Equal, Greater}
-use Rattle.path_tree.proofs.CallerLemmas.{cmp-ends, path_cmp-refl, same_path-is}
+use Rattle.std.proofs.Common.{◌≡◌, ◌≢◌, ℕ, zero, suc, ◌+◌, ◌<◌, ◌≤◌, ◌==◌, Bool, false, ◌&&◌, [], ◌∷◌, length, take, Some, None, refl, sym, ◌∙◌, ap, subst, add-one, arith, get_or, drop, length-take, min}
+use Rattle.generation.proofs.Words.{slice_get, All, eq-eqb, ne_eqb, false_from_ne_true, All-head, All-tail, get_or_from_slice_get, slice_get_within, same_Some, Bytes, PathNames, IsPath, IsName, name_cmp, path_cmp, same_path, Tree, is_a_file, Entry, path_at, bytes_at, last_of, view_spot, content_in, is_file_at, item_at, spot_at, IsSpotIn, get_or_default, and_parts, eqb-true, nat_cmp, ordering_then, Ordering, Less, Equal, Greater, cmp-ends, path_cmp-refl, same_path-is, CodeSpot}
+use Rattle.path_tree.specs.declared.entry.Entry.TheVariants as entries
 
 -- an entry by its number
-pub entry_get : (t : Tree) (i : ℕ) (d : PathNames × Entry) → i < length t → ((get_or t i d).0 ≡ path_at t i) × (content_in (get_or t i d).1 ≡ bytes_at t i) × (is_a_file (get_or t i d).1 ≡ is_file_at t i)
-entry_get [] i d lt = absurd (omega (arith, lt))
-entry_get (e ∷ es) zero d lt = (refl, refl, refl)
-entry_get (e ∷ es) (suc i) d lt = entry_get es i d (omega (arith, lt))
+pub item_is : (t : Tree) (i : ℕ) (d : PathNames × Entry) → i < length t → get_or t i d ≡ item_at t i
+item_is t i d lt = get_or_default t i d ([], entries.Folder) lt
 
 -- the same where the entries were lent
 pub path_lent : (es t : Tree) (i : ℕ) (d : PathNames × Entry) → es ≡ t → i < length t → (get_or es i d).0 ≡ path_at t i
-path_lent es t i d same lt = subst (λ (u : Tree). (get_or u i d).0 ≡ path_at t i) (sym same) (entry_get t i d lt).0
+path_lent es t i d same lt = rw same (ap (λ (x : PathNames × Entry). x.0) (item_is t i d lt))
 
 pub content_lent : (es t : Tree) (i : ℕ) (d : PathNames × Entry) (x : Entry) → es ≡ t → i < length t → (get_or es i d).1 ≡ x → content_in x ≡ bytes_at t i
-content_lent es t i d x same lt is = ap content_in (sym is) ∙ subst (λ (u : Tree). content_in (get_or u i d).1 ≡ bytes_at t i) (sym same) (entry_get t i d lt).1
+content_lent es t i d x same lt is = rw (← is, same) (ap (λ (y : PathNames × Entry). content_in y.1) (item_is t i d lt))
 
 pub path_at_within : (t : Tree) (i : ℕ) → 0 < length (path_at t i) → i < length t
 path_at_within [] i lt = absurd (omega (arith, lt))
 path_at_within (x ∷ xs) zero lt = omega arith
 path_at_within (x ∷ xs) (suc i) lt = omega (arith, path_at_within xs i lt)
-
-pub kind_apart : (a b s : Bool) (x y : Bytes) → a ≢ b → (s && same_kind (cond a (Some x) None) (cond b (Some y) None)) ≡ false
-kind_apart true true s x y ne = absurd (ne refl)
-kind_apart true false s x y ne = and_right s false refl
-kind_apart false true s x y ne = and_right s false refl
-kind_apart false false s x y ne = absurd (ne refl)
-
-pub kind_same : (a b s : Bool) (x y : Bytes) → a ≡ b → (s && same_kind (cond a (Some x) None) (cond b (Some y) None)) ≡ s
-kind_same true true true x y e = refl
-kind_same true true false x y e = refl
-kind_same false false true x y e = refl
-kind_same false false false x y e = refl
-kind_same true false s x y e = cc
-kind_same false true s x y e = cc
 
 pub path_valid : (t : Tree) (i : ℕ) → All (λ e. IsPath e.0 × (e.0 ≢ [])) t → All IsName (path_at t i)
 path_valid [] i all = λ k d lt. absurd (omega (arith, lt))
@@ -66,61 +35,34 @@ pub valid_lent : (q p : PathNames) (j : ℕ) (n : Bytes) → q ≡ p → All IsN
 valid_lent q p j n same all e =
     let h : IsName n = subst IsName (get_or_from_slice_get q j n [] e) (subst (All IsName) (sym same) all j [] (slice_get_within q j n e)) in (h.at_least, h.at_most)
 
--- a path goes on at a depth
-pub deep_get : (t : Tree) (i depth : ℕ) (d : PathNames × Entry) → i < length t → depth < length (path_at t i) → depth < length (get_or t i d).0
-deep_get t i depth d lt deep = subst (λ (p : PathNames). depth < length p) (sym ((entry_get t i d lt).0)) deep
-
--- the names of two entries at a depth
-pub names_get : (t : Tree) (a b depth : ℕ) (d e : PathNames × Entry) (m n : Bytes) → a < length t → b < length t
-    → slice_get (get_or t a d).0 depth ≡ Some m → slice_get (get_or t b e).0 depth ≡ Some n → same_name m n ≡ same_name (name_at t a depth) (name_at t b depth)
-names_get t a b depth d e m n la lb left right =
-    let is_left : m ≡ name_at t a depth = sym (get_or_from_slice_get (path_at t a) depth m [] (subst (λ (p : PathNames). slice_get p depth ≡ Some m) ((entry_get t a d la).0) left)) in
-    let is_right : n ≡ name_at t b depth = sym (get_or_from_slice_get (path_at t b) depth n [] (subst (λ (p : PathNames). slice_get p depth ≡ Some n) ((entry_get t b e lb).0) right)) in
-    ap (λ k. same_name k n) is_left ∙ ap (same_name (name_at t a depth)) is_right
-
--- ---- the object of the first names of an entry's path
-
-ends : (t : Tree) (at depth n : ℕ) (d : PathNames × Entry) → at < length t → n ≡ length (get_or t at d).0 → n ≡ depth + 1 → (length (path_at t at) == depth + 1) ≡ true
-ends t at depth n d lt len is = eq-eqb (length (path_at t at)) (depth + 1) (sym (ap length ((entry_get t at d lt).0)) ∙ (sym len ∙ is))
-
-goes_on : (t : Tree) (at depth n : ℕ) (d : PathNames × Entry) → at < length t → n ≡ length (get_or t at d).0 → (n ≡ depth + 1 → ⊥) → (length (path_at t at) == depth + 1) ≡ false
-goes_on t at depth n d lt len not' = ne_eqb (length (path_at t at)) (depth + 1) (λ e. not' (len ∙ (ap length ((entry_get t at d lt).0) ∙ e)))
-
-pub inside_ends : (t : Tree) (at depth n : ℕ) (d : PathNames × Entry) → at < length t → n ≡ length (get_or t at d).0 → n ≡ depth + 1 → at + 1 ≡ first_inside t at depth
-inside_ends t at depth n d lt len is = ap (λ (b : Bool). cond b (at + 1) at) (sym (ends t at depth n d lt len is))
-
-pub inside_goes_on : (t : Tree) (at depth n : ℕ) (d : PathNames × Entry) → at < length t → n ≡ length (get_or t at d).0 → (n ≡ depth + 1 → ⊥) → at ≡ first_inside t at depth
-inside_goes_on t at depth n d lt len not' = ap (λ (b : Bool). cond b (at + 1) at) (sym (goes_on t at depth n d lt len not'))
+-- ---- the object of the names of an entry's path up to a depth
 
 abbrev pub one_spot : ℕ → ℕ → ℕ → ℕ → Bool → CodeSpot
 one_spot at depth number parent whole = record { entry = at; names = depth + 1; whole = whole; number = number; parent = Some parent }
 
-abbrev pub seen : Tree → ℕ → ℕ → ℕ → ℕ → Bytes → Bool → Spot
-seen t at depth number parent n b = record { path = take (depth + 1) (path_at t at); name = n; content = cond b (Some (bytes_at t at)) None; number = number; parent = Some parent }
+-- whether it is the entry's file
+pub whole_ends : (t : Tree) (at depth n : ℕ) (file : Bool) (d : PathNames × Entry) → at < length t → n ≡ length d.0 → n ≡ depth + 1 → file ≡ is_a_file d.1 → d ≡ get_or t at d
+    → file ≡ ((length (path_at t at) == suc depth) && is_file_at t at)
+whole_ends t at depth n file d lt len is kind read =
+    let e : d ≡ item_at t at = read ∙ item_is t at d lt in
+    let long : length (path_at t at) ≡ suc depth = ap (λ (x : PathNames × Entry). length x.0) (sym e) ∙ (sym len ∙ (is ∙ add-one depth)) in
+    kind ∙ (ap (λ (x : PathNames × Entry). is_a_file x.1) e ∙ sym (ap (λ b. b && is_file_at t at) (eq-eqb _ (suc depth) long)))
 
-spot_seen : (t : Tree) (at depth number parent : ℕ) (b : Bool) → b ≡ ((length (path_at t at) == depth + 1) && is_file_at t at)
-    → view_spot t (one_spot at depth number parent b) ≡ first_spot t at depth number parent
-spot_seen t at depth number parent b e =
-    ap (λ (n : Bytes). seen t at depth number parent n b) (ap (last_of (path_at t at)) (add-one depth))
-    ∙ ap (seen t at depth number parent (name_at t at depth)) e
+pub whole_goes_on : (t : Tree) (at depth n : ℕ) (d : PathNames × Entry) → at < length t → n ≡ length d.0 → (n ≡ depth + 1 → ⊥) → d ≡ get_or t at d
+    → (n == depth + 1) ≡ ((length (path_at t at) == suc depth) && is_file_at t at)
+whole_goes_on t at depth n d lt len not' read =
+    let e : d ≡ item_at t at = read ∙ item_is t at d lt in
+    ne_eqb n (depth + 1) not' ∙ sym (ap (λ b. b && is_file_at t at) (ne_eqb _ (suc depth) (λ long. not' (len ∙ (ap (λ (x : PathNames × Entry). length x.0) e ∙ (long ∙ sym (add-one depth)))))))
 
-pub spot_valid : (t : Tree) (at depth number parent n : ℕ) (file : Bool) (d : PathNames × Entry) → at < length t → depth < length (path_at t at)
-    → n ≡ length (get_or t at d).0 → n ≡ depth + 1 → file ≡ is_a_file (get_or t at d).1 → IsSpotIn t (one_spot at depth number parent file)
-spot_valid t at depth number parent n file d lt name len is kind = record {
+pub spot_is : (t : Tree) (at depth number parent : ℕ) (whole : Bool) → whole ≡ ((length (path_at t at) == suc depth) && is_file_at t at) → view_spot t (one_spot at depth number parent whole) ≡ spot_at (item_at t at) depth number parent
+spot_is t at depth number parent whole e = rw (add-one depth, e) refl
+
+pub spot_valid : (t : Tree) (at depth number parent : ℕ) (whole : Bool) → at < length t → depth < length (path_at t at) → whole ≡ ((length (path_at t at) == suc depth) && is_file_at t at) → IsSpotIn t (one_spot at depth number parent whole)
+spot_valid t at depth number parent whole lt name e = record {
   names = omega (arith, name);
-  whole = λ e. (lt, sym is ∙ (len ∙ ap length ((entry_get t at d lt).0)), sym ((entry_get t at d lt).2) ∙ (sym kind ∙ e));
+  whole = λ on. let h = and_parts (length (path_at t at) == suc depth) _ (sym e ∙ on) in (lt, add-one depth ∙ sym (eqb-true _ (suc depth) h.0), h.1);
   named = λ folder e. omega arith;
 }
-
-pub spot_ends : (t : Tree) (at depth number parent n : ℕ) (file : Bool) (d : PathNames × Entry) → at < length t
-    → n ≡ length (get_or t at d).0 → n ≡ depth + 1 → file ≡ is_a_file (get_or t at d).1 → view_spot t (one_spot at depth number parent file) ≡ first_spot t at depth number parent
-spot_ends t at depth number parent n file d lt len is kind =
-    spot_seen t at depth number parent file (kind ∙ ((entry_get t at d lt).2 ∙ sym (ap (λ (b : Bool). b && is_file_at t at) (ends t at depth n d lt len is))))
-
-pub spot_goes_on : (t : Tree) (at depth number parent n : ℕ) (d : PathNames × Entry) → at < length t
-    → n ≡ length (get_or t at d).0 → (n ≡ depth + 1 → ⊥) → view_spot t (one_spot at depth number parent (n == depth + 1)) ≡ first_spot t at depth number parent
-spot_goes_on t at depth number parent n d lt len not' =
-    spot_seen t at depth number parent (n == depth + 1) (ne_eqb n (depth + 1) not' ∙ sym (ap (λ (b : Bool). b && is_file_at t at) (goes_on t at depth n d lt len not')))
 
 -- the gateway is an object of any tree
 pub gateway_valid : (t : Tree) → IsSpotIn t (record { entry = 0; names = 0; whole = false; number = 0; parent = None })

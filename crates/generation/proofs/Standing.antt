@@ -1,17 +1,13 @@
 -- The objects of a tree are what stands in it.
 use Rattle.std.proofs.Common.{◌≡◌, ℕ, suc, ◌+◌, true, false, List, [], ◌∷◌, ◌++◌, map, Some, None, cond, refl, sym, ◌∙◌, ap, subst, inl, inr}
-use Rattle.std.specs.declared.cmp.Ordering.TheVariants.{Less}
-use Rattle.std.proofs.lemmas.Bool.{false_from_ne_true, cases_Bool}
-use Rattle.path_tree.specs.Paths.{Bytes, PathNames, name_cmp, same_name, same_path}
-use Rattle.path_tree.specs.Nestings.{Nesting, Empty, FileThen, FolderThen, stands_in, stands_at, nested, IsAfter, IsNesting}
-use Rattle.path_tree.proofs.CallerLemmas.{name_cmp-refl, same_name-is, rises_tree, nested-flat, walk}
-use Rattle.generation.specs.Publication.{Spot, count_in, below, spots_in, spots_of}
-use Rattle.generation.specs.Standing.{object_at, object_for, ObjectsAreWhatStands}
+use Rattle.generation.proofs.Words.{Less, false_from_ne_true, cases_Bool, Bytes, PathNames, name_cmp, same_name, same_path, Nesting, Empty, FileThen, FolderThen, stands_in, stands_at, nested, IsAfter, IsNesting, name_cmp-refl, same_name-is, rises_tree, nested-flat, below, spots_in, spots_of, object_for, ObjectsAreWhatStands, walk, Spot}
+use Rattle.generation.specs.Publication.{count_in}
+use Rattle.generation.specs.Standing.{object_at}
 use Rattle.generation.proofs.Numbering.{rising_all, all_parents}
 
 -- ---- objects of other paths
 
-names_differ : (n m : Bytes) → name_cmp n m ≡ Less → same_name n m ≡ false
+pub names_differ : (n m : Bytes) → name_cmp n m ≡ Less → same_name n m ≡ false
 names_differ n m less = false_from_ne_true (same_name n m) (λ e. let bad = sym (name_cmp-refl n) ∙ (ap (name_cmp n) (same_name-is n m e) ∙ less) in cc)
 
 at_back : (xs ys : List Spot) (p : PathNames) → object_at xs p ≡ None → object_at (xs ++ ys) p ≡ object_at ys p

@@ -1,19 +1,9 @@
 -- Sizes of objects, with one more of them added to its folder, and the first folder that is too large.
 use Rattle.std.proofs.Common.{◌≡◌, ℕ, ◌+◌, ◌*◌, ◌<◌, ◌≤◌, ◌==◌, true, false, List, [], ◌∷◌, ◌++◌, length, take, map, set, get_or, Option, Some, None, refl, sym, ◌∙◌, ap, subst, inl, inr, arith, Bool, drop, Ok}
-use Rattle.std.specs.List.{All, sum_by, find}
-use Rattle.std.proofs.lemmas.Bool.{cases_eq, cond_both}
-use Rattle.std.proofs.lemmas.Bool.Decides.{nat_tests}
-use Rattle.std.proofs.lemmas.List.{take-map, get_or-map, length-map, length-set, length-take, get_or-set_same, get_or-set_other, ext_get_or, map_more, drop_more}
-use Rattle.std.proofs.lemmas.List.Elements.{All-head, All-tail, All-take}
-use Rattle.std.proofs.lemmas.List.Sums.{sum_by-cons, sum_by-append}
-use Rattle.path_tree.specs.Paths.{Bytes}
-use Rattle.path_tree.specs.Trees.{Tree}
-use Rattle.generation.specs.declared.spots.Spot.{Spot as CodeSpot}
-use Rattle.generation.specs.Publication.{Spot, gateway_spot, spots_of, sizes_of, limit_of, is_child, binding_rest, binding_size, size_of, is_large_folder, Passed}
-use Rattle.generation.specs.View.{view_spot, AreSpotsOf}
+use Rattle.generation.proofs.Words.{All, sum_by, find, cases_eq, cond_both, nat_tests, take-map, get_or-map, length-map, get_or-set_same, get_or-set_other, ext_get_or, map_more, drop_more, All-head, All-tail, All-take, sum_by-cons, sum_by-append, Bytes, Tree, gateway_spot, spots_of, sizes_of, limit_of, is_child, binding_rest, binding_size, size_of, is_large_folder, Passed, view_spot, AreSpotsOf, check_of, unless_passed, length-set, CodeSpot, Spot}
+use Rattle.std.proofs.lemmas.List.{length-take}
 use Rattle.generation.proofs.Placing.{within_limits}
 use Rattle.generation.proofs.Numbering.{number_at, all_numbered, all_in_folders, all_valid, IsValidSpot, child_has, IsFolderOf}
-use Rattle.generation.specs.Limits.{check_of, unless_passed}
 
 -- ---- one object more
 

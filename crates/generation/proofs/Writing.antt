@@ -1,43 +1,20 @@
 -- What is written of a generation: bindings, modules, messages.
-use Rattle.std.proofs.Common.{◌≡◌, ℕ, zero, suc, ◌+◌, ◌-◌, ◌*◌, ◌%◌, ◌<◌, ◌≤◌, min, false, List, [], ◌∷◌, ◌++◌, length, take, drop, map, Option, Some, ◌==◌, refl, sym, subst, ◌∙◌, ap, arith, get_or, length-append, length-drop, length-take, Vec, Global, Result, inl, inr, lit≤}
-use Rattle.std.specs.List.{All, flat_map}
-use Rattle.std.specs.Prelude.{IfOk}
-use Rattle.std.proofs.lemmas.Bool.{cases_lt, cond_both}
-use Rattle.std.proofs.lemmas.List.Elements.{All-map}
-use Rattle.path_tree.specs.Paths.{Bytes}
-use Rattle.biop_object.specs.Objects.{gateway_kind}
+use Rattle.std.proofs.Common.{◌≡◌, ℕ, zero, suc, ◌+◌, ◌-◌, ◌*◌, ◌%◌, ◌<◌, ◌≤◌, min, false, List, [], ◌∷◌, ◌++◌, length, take, drop, map, Option, Some, ◌==◌, refl, sym, subst, ◌∙◌, ap, arith, length-append, length-drop, Vec, Global, Result, inl, inr, lit≤}
+use Rattle.generation.proofs.Words.{All, flat_map, IfOk, cases_lt, cond_both, All-map, Bytes, DiiFields, dsi_spelling, dii_spelling, line_bytes, ModuleLine, Listed, key_in, placed_at, old_keys, taken_in, free_keys, fill_keys, keys_of, dii_lines, gateway_location, control_section, block_section, GenerationState, section_of, module_in, unwrap_or, length-map, take_min, drop_all, take_all, group_in, view_listed, IsRising, dii_transaction, Spot, Placed, count_in, Item}
 use Rattle.ior_tap.specs.Iors as iors
 use Rattle.ddb_block.specs.Blocks as blocks
-use Rattle.dsi_dii.specs.Controls.{DiiFields, dii_transaction, dsi_spelling, dii_spelling, line_bytes}
-use Rattle.dsi_dii.specs.declared.ModuleLine.{ModuleLine}
 use Rattle.dsmcc_section.specs.Sections as sections
 use Rattle.dsmcc_section.specs.declared.Table.TheVariants as tables
-use Rattle.generation.specs.declared.made.Listed.{Listed}
-use Rattle.generation.specs.Publication.{Spot as SpotFields}
-use Rattle.generation.specs.Layouts.{Placed, key_in, placed_at, old_keys, taken_in, free_keys, fill_keys, keys_of, count_in, dii_lines, gateway_location, control_section, block_section, GenerationState, section_of}
-use Rattle.biop_object.specs.Names.{module_in}
-use Rattle.std.specs.Option.{unwrap_or}
-use Rattle.std.proofs.lemmas.List.{length-map, take_min, drop_all, take_all}
-use Rattle.cycle_planner.specs.declared.Item.{Item}
-use Rattle.generation.specs.Groups.{group_in}
-use Rattle.generation.specs.View.{view_listed}
-use Rattle.generation.specs.View.{IsRising}
+use Rattle.biop_object.specs.declared.reading.TheConstants.{GATEWAY}
+use Rattle.carousel_profile.specs.declared.TheConstants.{BLOCK_SIZE}
 use Rattle.generation.proofs.Grouping.{few_of_group}
 
-pub keys_are : (old : List Placed) (spots : List SpotFields) (keys : List (Option ℕ)) → keys ≡ old_keys old spots → fill_keys keys (free_keys (taken_in keys) (length keys)) ≡ keys_of old spots
+pub keys_are : (old : List Placed) (spots : List Spot) (keys : List (Option ℕ)) → keys ≡ old_keys old spots → fill_keys keys (free_keys (taken_in keys) (length keys)) ≡ keys_of old spots
 keys_are old spots keys e =
     ap (λ k. fill_keys k (free_keys (taken_in k) (length k))) e
     ∙ ap (λ n. fill_keys (old_keys old spots) (free_keys (taken_in (old_keys old spots)) n)) (length-map spots (λ s. key_in (placed_at old s)))
 
--- ---- bindings
-
 -- ---- modules
-
-pub small_module : (modules : List Listed) (i : ℕ) (d : Listed) → All (λ m. length m.1 ≤ 268435456) (map view_listed modules) → i < length modules
-    → length (get_or modules i d).bytes ≤ 268435456
-small_module [] i d all lt = absurd (omega (arith, lt))
-small_module (m ∷ ms) zero d all lt = all 0 (view_listed d) (omega arith)
-small_module (m ∷ ms) (suc i) d all lt = small_module ms i d (λ k e l. all (suc k) e (omega (arith, l))) (omega (arith, lt))
 
 pub small_count : (counts : List ℕ) (id most : ℕ) → 0 < most → All (λ c. c < most) counts → count_in counts id < most
 small_count [] id most some all = omega (arith, some)
@@ -46,26 +23,26 @@ small_count (c ∷ cs) (suc id) most some all = small_count cs id most some (λ 
 
 -- ---- blocks
 
-pub block_cut : (bytes : List ℕ) (n a e : ℕ) → a ≡ min (n * 4066) (length bytes) → e ≡ min (a + 4066) (length bytes)
-    → take (e - a) (drop a bytes) ≡ blocks.block_of bytes 4066 n
-block_cut bytes n a e ea ee = elim (cases_lt (length bytes) (n * 4066)) [
-  | inl past ↦ let none : drop (n * 4066) bytes ≡ [] = drop_all (n * 4066) bytes (omega (arith, past)) in
+pub block_cut : (bytes : List ℕ) (n a e : ℕ) → a ≡ min (n * BLOCK_SIZE) (length bytes) → e ≡ min (a + BLOCK_SIZE) (length bytes)
+    → take (e - a) (drop a bytes) ≡ blocks.block_of bytes BLOCK_SIZE n
+block_cut bytes n a e ea ee = elim (cases_lt (length bytes) (n * BLOCK_SIZE)) [
+  | inl past ↦ let none : drop (n * BLOCK_SIZE) bytes ≡ [] = drop_all (n * BLOCK_SIZE) bytes (omega (arith, past)) in
       let all : drop a bytes ≡ [] = drop_all a bytes (omega (arith, past, ea)) in
-      ap (λ d. take (e - a) d) all ∙ (take_all (e - a) [] (omega arith) ∙ sym (ap (λ d. take 4066 d) none))
-  | inr here ↦ let at : a ≡ n * 4066 = omega (arith, here, ea) in
+      ap (λ d. take (e - a) d) all ∙ (take_all (e - a) [] (omega arith) ∙ sym (ap (λ d. take BLOCK_SIZE d) none))
+  | inr here ↦ let at : a ≡ n * BLOCK_SIZE = omega (arith, here, ea) in
       let left : length (drop a bytes) ≡ length bytes - a = length-drop a bytes in
-      let span : e - a ≡ min 4066 (length (drop a bytes)) = omega (arith, here, ea, ee, left) in
-      ap (λ k. take k (drop a bytes)) span ∙ (take_min 4066 (drop a bytes) ∙ ap (λ k. take 4066 (drop k bytes)) at)
+      let span : e - a ≡ min BLOCK_SIZE (length (drop a bytes)) = omega (arith, here, ea, ee, left) in
+      ap (λ k. take k (drop a bytes)) span ∙ (take_min BLOCK_SIZE (drop a bytes) ∙ ap (λ k. take BLOCK_SIZE (drop k bytes)) at)
 ]
 
-pub section_is : (c m v b last : ℕ) (bytes payload : List ℕ) → payload ≡ blocks.spelling (record { download = c; module_id = m; version = v; number = b; bytes = blocks.block_of bytes 4066 b })
-    → last ≡ min 255 (blocks.block_count_of (length bytes) 4066 - 1)
+pub section_is : (c m v b last : ℕ) (bytes payload : List ℕ) → payload ≡ blocks.spelling (record { download = c; module_id = m; version = v; number = b; bytes = blocks.block_of bytes BLOCK_SIZE b })
+    → last ≡ min 255 (blocks.block_count_of (length bytes) BLOCK_SIZE - 1)
     → record { table = tables.Blocks; extension = m; version = v % 32; number = b % 256; last = last; payload = payload } ≡ block_section c m v b bytes
 section_is c m v b last bytes payload e f = rw (e, f) refl
 
 -- ---- control messages
 
-pub dsi_short : (c : ℕ) → length (dsi_spelling 0x80000000 gateway_kind (gateway_location c)) ≤ 4084
+pub dsi_short : (c : ℕ) → length (dsi_spelling 0x80000000 GATEWAY (gateway_location c)) ≤ 4084
 dsi_short c = lit≤ tt
 
 lines_length : (ms : List ModuleLine) → length (flat_map line_bytes ms) ≡ 29 * length ms
@@ -78,30 +55,27 @@ dii_short d few = let n : length (flat_map line_bytes d.modules ++ 0 ∷ 0 ∷ [
 pub plain_lines : (counts : List ℕ) (layout : List (ℕ × Bytes)) → All (λ l. l.compressed ≡ false) (dii_lines counts layout)
 plain_lines counts layout = All-map (λ l. l.compressed ≡ false) (λ m. record { id = m.0; size = length m.1; version = count_in counts m.0 % 256; compressed = false }) layout (λ k d lt. refl)
 
-pub gateway_written : (c : ℕ) (ior : iors.Fields) → ior ≡ iors.written_form gateway_kind (gateway_location c) → iors.IsWritten ior (gateway_location c)
+pub gateway_written : (c : ℕ) (ior : iors.Fields) → ior ≡ iors.written_form GATEWAY (gateway_location c) → iors.IsWritten ior (gateway_location c)
 gateway_written c ior e = subst (λ v. iors.IsWritten v (gateway_location c)) (sym e) (record { form = refl; four = refl; key = refl; listed = (lit≤ tt, lit≤ tt) })
 
-pub dsi_is : (c : ℕ) (payload : List ℕ) (ior : iors.Fields) (t : ℕ) → ior ≡ iors.written_form gateway_kind (gateway_location c) → t ≡ 0x80000000
-    → payload ≡ dsi_spelling t ior.kind (gateway_location c) → payload ≡ dsi_spelling 0x80000000 gateway_kind (gateway_location c)
-dsi_is c payload ior t ei et e = e ∙ (ap (λ k. dsi_spelling t k (gateway_location c)) (ap (λ v. v.kind) ei) ∙ ap (λ u. dsi_spelling u gateway_kind (gateway_location c)) et)
+pub dsi_is : (c : ℕ) (payload : List ℕ) (ior : iors.Fields) (t : ℕ) → ior ≡ iors.written_form GATEWAY (gateway_location c) → t ≡ 0x80000000
+    → payload ≡ dsi_spelling t ior.kind (gateway_location c) → payload ≡ dsi_spelling 0x80000000 GATEWAY (gateway_location c)
+dsi_is c payload ior t ei et e = e ∙ (ap (λ k. dsi_spelling t k (gateway_location c)) (ap (λ v. v.kind) ei) ∙ ap (λ u. dsi_spelling u GATEWAY (gateway_location c)) et)
 
 pub dii_is : (c g group t : ℕ) (counts : List ℕ) (layout : List (ℕ × Bytes)) (ms : List ModuleLine) (payload : List ℕ) → t ≡ dii_transaction g group → ms ≡ dii_lines counts layout
-    → payload ≡ dii_spelling (record { download = c; block_size = 4066; transaction = t; modules = ms })
-    → payload ≡ dii_spelling (record { download = c; block_size = 4066; transaction = dii_transaction g group; modules = dii_lines counts layout })
+    → payload ≡ dii_spelling (record { download = c; block_size = BLOCK_SIZE; transaction = t; modules = ms })
+    → payload ≡ dii_spelling (record { download = c; block_size = BLOCK_SIZE; transaction = dii_transaction g group; modules = dii_lines counts layout })
 dii_is c g group t counts layout ms payload et em e =
-    e ∙ (ap (λ u. dii_spelling (record { download = c; block_size = 4066; transaction = u; modules = ms })) et
-    ∙ ap (λ ns. dii_spelling (record { download = c; block_size = 4066; transaction = dii_transaction g group; modules = ns })) em)
+    e ∙ (ap (λ u. dii_spelling (record { download = c; block_size = BLOCK_SIZE; transaction = u; modules = ms })) et
+    ∙ ap (λ ns. dii_spelling (record { download = c; block_size = BLOCK_SIZE; transaction = dii_transaction g group; modules = ns })) em)
 
 pub dii_fits : (c g group : ℕ) (counts : List ℕ) (layout : List (ℕ × Bytes)) (payload : List ℕ) → IsRising layout → 1 ≤ group
-    → payload ≡ dii_spelling (record { download = c; block_size = 4066; transaction = dii_transaction g group; modules = dii_lines counts (group_in layout group) }) → length payload ≤ 4084
+    → payload ≡ dii_spelling (record { download = c; block_size = BLOCK_SIZE; transaction = dii_transaction g group; modules = dii_lines counts (group_in layout group) }) → length payload ≤ 4084
 dii_fits c g group counts layout payload rising some e =
     let listed = group_in layout group in
     let n : length (dii_lines counts listed) ≡ length listed = length-map listed _ in
-    let short = dii_short (record { download = c; block_size = 4066; transaction = dii_transaction g group; modules = dii_lines counts listed }) (omega (arith, n, few_of_group layout group rising some)) in
+    let short = dii_short (record { download = c; block_size = BLOCK_SIZE; transaction = dii_transaction g group; modules = dii_lines counts listed }) (omega (arith, n, few_of_group layout group rising some)) in
     omega (arith, short, ap length e)
-
-pub block_short : (bytes : List ℕ) (a e : ℕ) → e ≤ a + 4066 → length (take (e - a) (drop a bytes)) ≤ 4066
-block_short bytes a e le = let n : length (take (e - a) (drop a bytes)) ≤ e - a = omega (arith, length-take (e - a) (drop a bytes)) in omega (arith, n, le)
 
 pub small_bytes : (layout : List (ℕ × Bytes)) (id : ℕ) → All (λ m. length m.1 ≤ 268435456) layout → length (unwrap_or (module_in layout id) []) ≤ 268435456
 small_bytes [] id all = omega arith
@@ -122,7 +96,7 @@ block_arm r c id block n n' bytes bytes' en eb is =
 -- what is sent of listed modules, where they stand after a reference
 abbrev pub DiiSection : {E : Type 0} → Result (Vec ℕ Global) E → (carousel number group : ℕ) → List ℕ → List Listed → Type 0
 DiiSection r c g group counts modules = IfOk r (λ v. v.items ≡ sections.spelling (control_section (dii_transaction g group % 65536)
-    (dii_spelling (record { download = c; block_size = 4066; transaction = dii_transaction g group; modules = dii_lines counts (group_in (map view_listed modules) group) }))))
+    (dii_spelling (record { download = c; block_size = BLOCK_SIZE; transaction = dii_transaction g group; modules = dii_lines counts (group_in (map view_listed modules) group) }))))
 
 pub dii_arm : {E : Type 0} (r : Result (Vec ℕ Global) E) (c g group : ℕ) (counts counts' : List ℕ) (modules modules' : List Listed) → counts' ≡ counts → modules' ≡ modules
     → DiiSection r c g group counts' modules' → DiiSection r c g group counts modules

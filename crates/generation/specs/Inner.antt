@@ -3,5 +3,6 @@ pub mod Grouped
 pub mod Halves
 pub mod Linking
 pub mod Merging
-pub mod Segments
+pub mod Passing
 pub mod Stays
+pub mod View

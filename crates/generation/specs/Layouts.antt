@@ -1,13 +1,14 @@
 -- How a tree becomes modules, one generation after another.
 use Rattle.std.specs.Prelude.{ℕ, ◌+◌, ◌-◌, ◌%◌, Bool, true, false, not, ◌&&◌, List, [], ◌∷◌, ◌++◌, length, map, get_or, Option, Some, None, ◌==◌, min, max, if◌then◌else◌}
 use Rattle.std.specs.Option.{unwrap_or}
-use Rattle.std.specs.List.{flat_map, filter, filter_map, find, fold, list_any, range_with_len, zip}
+use Rattle.std.specs.List.{flat_map, filter, filter_map, find, fold, list_any, range_with_len, zip, All, Contains}
 use Rattle.oc_bytes.specs.Numbers.{four_bytes}
 use Rattle.path_tree.specs.Paths.{Bytes, PathNames, same_path, same_name}
 use Rattle.path_tree.specs.Trees.{Tree}
 use Rattle.ior_tap.specs.declared.Location.{Location}
+use Rattle.biop_object.specs.declared.reading.TheConstants.{GATEWAY}
 use Rattle.biop_object.specs.Names.{Layout, module_in}
-use Rattle.biop_object.specs.Objects.{file_spelling, folder_spelling, gateway_kind}
+use Rattle.biop_object.specs.Objects.{file_spelling, folder_spelling}
 use Rattle.biop_object.specs.declared.written.Written.{Written}
 use Rattle.biop_object.specs.declared.written.Bound.{Bound}
 use Rattle.biop_object.specs.declared.written.Bound.TheVariants as bounds
@@ -19,12 +20,12 @@ use Rattle.dsi_dii.specs.declared.ModuleLine.{ModuleLine}
 use Rattle.dsmcc_section.specs.Sections as sections
 use Rattle.dsmcc_section.specs.declared.Table.TheVariants as tables
 use Rattle.module_packer.specs.Kept.{kept_modules}
-use Rattle.cycle_planner.specs.Cycle.{Line, diis_of, blocks_of}
+use Rattle.cycle_planner.specs.Cycle.{Line, diis_of, blocks_of, cycle_of}
 use Rattle.cycle_planner.specs.declared.Item.{Item}
 use Rattle.cycle_planner.specs.declared.Item.TheVariants.{Dsi, Dii, Block}
 use Rattle.generation.specs.Groups.{group_in, dii_transaction}
 use Rattle.generation.specs.Publication.{Spot, gateway_spot, spots_of, sizes_of, is_child}
-use Rattle.dsi_dii.specs.declared.TheConstants.{BLOCK_SIZE}
+use Rattle.carousel_profile.specs.declared.TheConstants.{BLOCK_SIZE, DSI_TRANSACTION}
 use Rattle.module_groups.specs.declared.TheConstants.{GREATEST_ID}
 
 -- an object with its key and its module
@@ -221,10 +222,22 @@ block_section carousel m version b bytes = record {
 
 -- the section of an item
 abbrev pub section_of : GenerationState → Item → Bytes
-section_of g Dsi = sections.spelling (control_section 0 (controls.dsi_spelling 0x80000000 gateway_kind (gateway_location g.carousel)))
+section_of g Dsi = sections.spelling (control_section 0 (controls.dsi_spelling DSI_TRANSACTION GATEWAY (gateway_location g.carousel)))
 section_of g (Dii j) = sections.spelling (control_section (dii_transaction g.number j % 65536) (controls.dii_spelling (dii_of g j)))
 section_of g (Block m b) = sections.spelling (block_section g.carousel m (count_in g.counts m % 256) b (unwrap_or (module_in g.layout m) []))
 
 -- the DSI, the DII of each group that has one, and each block of each module
 abbrev pub items_of : GenerationState → List Item
 items_of g = Dsi ∷ (diis_of (lines_of g) ++ flat_map blocks_of (lines_of g))
+
+-- the items of one whole cycle
+abbrev pub cycle_items : List ℕ → GenerationState → List Item
+cycle_items weights g = cycle_of weights (lines_of g)
+
+-- the sections of one whole cycle
+abbrev pub cycle_sections : List ℕ → GenerationState → List Bytes
+cycle_sections weights g = map (section_of g) (cycle_items weights g)
+
+-- these are items of that generation
+abbrev pub AreItemsOf : GenerationState → List Item → Type 0
+AreItemsOf g items = All (λ item. Contains (items_of g) item) items

@@ -2,11 +2,12 @@
 ghost use Rattle.std.specs.Prelude.{◌≡◌, ◌≤◌, ◌<◌, ◌+◌, ◌%◌, ◌++◌, [], length, map, IfOk};
 ghost use Rattle.std.specs.List.{All};
 ghost use Rattle.std.specs.Option.{unwrap_or};
+ghost use Rattle.oc_bytes.specs.Outcome.{MakesList};
+ghost use Rattle.biop_object.specs.declared.reading.TheConstants.{GATEWAY};
 ghost use Rattle.biop_object.specs.Names.{module_in};
 ghost use Rattle.generation.specs.Layouts.{dii_lines, control_section, block_section as section_of_block, gateway_location, count_in};
 ghost use Rattle.generation.specs.Groups.{group_in};
 ghost use Rattle.generation.specs.View.{IsRising, view_listed};
-ghost use Rattle.biop_object.specs.Objects.{gateway_kind};
 ghost use Rattle.dsmcc_section.specs.Sections.{IsFramed, fields_with, spelling};
 ghost use Rattle.ior_tap.specs.Iors.{view, written_form};
 ghost use Rattle.ddb_block.specs.Blocks.{block_of};
@@ -18,8 +19,9 @@ ghost use Rattle.dsmcc_section.specs.declared.TheConstants.{MOST_PAYLOAD};
 
 use crate::groups::group_modules;
 use crate::made::{Listed, count_in as count_of, find_module};
+use carousel_profile::{ASSOCIATION_TAG, BLOCK_SIZE, DELIVERY_USE, DSI_TRANSACTION};
 use ddb_block::{Parts, block_count, block_front};
-use dsi_dii::{BLOCK_SIZE, Dii, DiiFault, Dsi, ModuleLine, TransactionId, encode_dii, encode_dsi};
+use dsi_dii::{Dii, DiiFault, Dsi, ModuleLine, TransactionId, encode_dii, encode_dsi};
 use dsmcc_section::{EncodeFault, Header, Table, encode_parts};
 use ior_tap::{Binder, Ior, Key, Location, Profile, Tap};
 use oc_bytes::NoMemory;
@@ -30,11 +32,10 @@ const BLOCK_BYTES: usize = BLOCK_SIZE as usize;
 
 /// The section of the DSI: it names the gateway, which is the object of key 1 in module 1.
 pub(crate) fn dsi_section(alloc: Global, carousel: u32) -> Result<Vec<u8>, NoMemory>
-    ensures spells { IfOk result (λ v.
-        v.items
-        ≡ spelling
+    ensures spells { MakesList result
+        (spelling
         (control_section 0
-        (dsi_spelling 0x80000000 gateway_kind (gateway_location carousel)))) }
+        (dsi_spelling DSI_TRANSACTION GATEWAY (gateway_location carousel)))) }
     ensures framed { IfOk result (λ v. IsFramed v.items) }
 {
     let dsi = Dsi {
@@ -48,14 +49,14 @@ pub(crate) fn dsi_section(alloc: Global, carousel: u32) -> Result<Vec<u8>, NoMem
 /// The reference to the gateway.
 fn gateway(alloc: Global, carousel: u32) -> Result<Ior, NoMemory>
     ensures { IfOk result (λ ior.
-        view ior ≡ written_form gateway_kind (gateway_location carousel)) }
+        view ior ≡ written_form GATEWAY (gateway_location carousel)) }
 {
     let key = Key::new(vec![in alloc; 0, 0, 0, 1]?);
     let selector = vec![in alloc; 0, 1, 0x80, 0, 0, 2, 0xFF, 0xFF, 0xFF, 0xFF]?;
     let tap = Tap {
         id: 0,
-        use_code: 0x0016,
-        assoc: 1,
+        use_code: DELIVERY_USE,
+        assoc: ASSOCIATION_TAG,
         selector,
     };
     let location = Location {
@@ -114,7 +115,7 @@ fn module_lines(
     counts: &[u64],
 ) -> Result<Vec<ModuleLine>, NoMemory>
     requires { All (λ m. length m.1 ≤ MOST_TOTAL_SIZE) (map view_listed modules.now) }
-    ensures { IfOk result (λ v. v.items ≡ dii_lines counts.now (map view_listed modules.now)) }
+    ensures { MakesList result (dii_lines counts.now (map view_listed modules.now)) }
 {
     let mut lines = Vec::new(alloc);
     for listed in modules {
@@ -131,8 +132,7 @@ fn module_lines(
 /// A section of a control message.
 fn control(alloc: Global, extension: u16, payload: Vec<u8>) -> Result<Vec<u8>, NoMemory>
     requires { length payload.items ≤ MOST_PAYLOAD }
-    ensures spells { IfOk result (λ v.
-        v.items ≡ spelling (control_section extension payload.items)) }
+    ensures spells { MakesList result (spelling (control_section extension payload.items)) }
     ensures framed { IfOk result (λ v. IsFramed v.items) }
 {
     let header = Header {
@@ -149,8 +149,7 @@ fn control(alloc: Global, extension: u16, payload: Vec<u8>) -> Result<Vec<u8>, N
 fn section(alloc: Global, header: &Header, front: &[u8], rest: &[u8]) -> Result<Vec<u8>, NoMemory>
     requires version { header.now.version < 32 }
     requires room { length front.now + length rest.now ≤ MOST_PAYLOAD }
-    ensures spells { IfOk result (λ v.
-        v.items ≡ spelling (fields_with header.now (front.now ++ rest.now))) }
+    ensures spells { MakesList result (spelling (fields_with header.now (front.now ++ rest.now))) }
     ensures framed { IfOk result (λ v. IsFramed v.items) }
 {
     match encode_parts(alloc, header, front, rest) {
@@ -171,9 +170,8 @@ pub(crate) fn block_of_module(
 ) -> Result<Vec<u8>, NoMemory>
     requires rising { IsRising (map view_listed modules.now) }
     requires sizes { All (λ m. length m.1 ≤ MOST_TOTAL_SIZE) (map view_listed modules.now) }
-    ensures spells { IfOk result (λ v.
-        v.items
-        ≡ spelling
+    ensures spells { MakesList result
+        (spelling
         (section_of_block carousel id (count_in counts.now id % 256) block
         (unwrap_or (module_in (map view_listed modules.now) id) []))) }
     ensures framed { IfOk result (λ v. IsFramed v.items) }
@@ -203,8 +201,8 @@ fn block_section(
     bytes: &[u8],
 ) -> Result<Vec<u8>, NoMemory>
     requires { length bytes.now ≤ MOST_TOTAL_SIZE }
-    ensures spells { IfOk result (λ v.
-        v.items ≡ spelling (section_of_block carousel id version block bytes.now)) }
+    ensures spells { MakesList result
+        (spelling (section_of_block carousel id version block bytes.now)) }
     ensures framed { IfOk result (λ v. IsFramed v.items) }
 {
     let parts = Parts {

@@ -3,10 +3,12 @@
 ghost use Rattle.std.specs.Prelude.{◌≡◌, ◌≢◌, None, Some, map, IfOk};
 ghost use Rattle.std.specs.List.{All, zip};
 ghost use Rattle.std.specs.Option.{option_map};
+ghost use Rattle.oc_bytes.specs.Outcome.{MakesList};
 ghost use Rattle.generation.specs.Publication.{AreRising};
 ghost use Rattle.generation.specs.Layouts.{old_keys, old_modules};
 ghost use Rattle.generation.specs.Inner.Merging.{from_path, first_same};
-ghost use Rattle.generation.specs.View.{view_spot, view_placed, IsSpotIn};
+ghost use Rattle.generation.specs.View.{view_spot, view_placed, all_placed};
+ghost use Rattle.generation.specs.Inner.View.{IsSpotIn};
 ghost use Rattle.module_packer.specs.Placement.{IsPlacement};
 ghost use Rattle.module_packer.specs.Kept.{AreObjects, kept_modules, sizes_in};
 ghost use Rattle.module_groups.specs.declared.TheConstants.{GREATEST_ID};
@@ -36,16 +38,15 @@ pub(crate) fn former_of(
     tree: &Tree,
 ) -> Result<Former, NoMemory>
     requires old { All (λ o. IsSpotIn old_tree.now o.spot) old.now }
-    requires old_rising { AreRising (map (λ o. o.spot) (map (view_placed old_tree.now) old.now)) }
+    requires old_rising { AreRising (map (λ o. o.spot) (all_placed old_tree.now old.now)) }
     requires spots { All (IsSpotIn tree.now) spots.now }
     requires rising { AreRising (map (view_spot tree.now) spots.now) }
     ensures keys { IfOk result (λ f.
         f.keys.items
-        ≡ old_keys (map (view_placed old_tree.now) old.now) (map (view_spot tree.now) spots.now)) }
+        ≡ old_keys (all_placed old_tree.now old.now) (map (view_spot tree.now) spots.now)) }
     ensures modules { IfOk result (λ f.
         f.modules.items
-        ≡ old_modules (map (view_placed old_tree.now) old.now)
-        (map (view_spot tree.now) spots.now)) }
+        ≡ old_modules (all_placed old_tree.now old.now) (map (view_spot tree.now) spots.now)) }
 {
     let mut keys = Vec::new(alloc);
     let mut modules = Vec::new(alloc);
@@ -70,11 +71,10 @@ fn seek<'a>(
     requires old { All (λ o. IsSpotIn old_tree.now o.spot) old.now }
     requires spot { IsSpotIn tree.now spot }
     ensures object { option_map (view_placed old_tree.now) result.0
-        ≡ first_same
-        (from_path (view_spot tree.now spot).path (map (view_placed old_tree.now) old.now))
+        ≡ first_same (from_path (view_spot tree.now spot).path (all_placed old_tree.now old.now))
         (view_spot tree.now spot) }
-    ensures left { map (view_placed old_tree.now) result.1.now
-        ≡ from_path (view_spot tree.now spot).path (map (view_placed old_tree.now) old.now) }
+    ensures left { all_placed old_tree.now result.1.now
+        ≡ from_path (view_spot tree.now spot).path (all_placed old_tree.now old.now) }
     ensures valid { All (λ o. IsSpotIn old_tree.now o.spot) result.1.now }
 {
     for (passed, object) in old.iter().enumerate() {
@@ -120,8 +120,7 @@ pub(crate) fn modules(
     former: &[Option<u16>],
 ) -> Result<Vec<u16>, NoMemory>
     requires { AreObjects GREATEST_ID (zip sizes.now former.now) }
-    ensures kept { IfOk result (λ ms.
-        ms.items ≡ kept_modules GREATEST_ID (zip sizes.now former.now)) }
+    ensures kept { MakesList result (kept_modules GREATEST_ID (zip sizes.now former.now)) }
     ensures fits { IfOk result (λ ms.
         IsPlacement GREATEST_ID (sizes_in (zip sizes.now former.now)) ms.items) }
 {
@@ -135,7 +134,7 @@ fn with_former(
     sizes: &[u32],
     former: &[Option<u16>],
 ) -> Result<Vec<(u32, Option<u16>)>, NoMemory>
-    ensures { IfOk result (λ v. v.items ≡ zip sizes.now former.now) }
+    ensures { MakesList result (zip sizes.now former.now) }
 {
     sizes
         .iter()

@@ -2,6 +2,7 @@
 
 ghost use Rattle.std.specs.Prelude.{◌≡◌, ◌==◌, ◌≤◌, ◌<◌, ◌+◌, ℕ, Option, true, false, length, slice_set, get_or, IfOk};
 ghost use Rattle.std.specs.List.{list_any};
+ghost use Rattle.oc_bytes.specs.Outcome.{MakesList};
 ghost use Rattle.generation.specs.Layouts.{taken_in, free_keys, fill_keys};
 ghost use Rattle.generation.specs.declared.limit.TheConstants.{MOST_OBJECTS};
 
@@ -11,8 +12,8 @@ use std::alloc::Global;
 /// The key of each object: its own where it had one, and else the least that is free.
 pub(crate) fn keys(alloc: Global, former: &[Option<u32>]) -> Result<Vec<u32>, NoMemory>
     requires { length former.now ≤ MOST_OBJECTS }
-    ensures { IfOk result (λ v.
-        v.items ≡ fill_keys former.now (free_keys (taken_in former.now) (length former.now))) }
+    ensures { MakesList result
+        (fill_keys former.now (free_keys (taken_in former.now) (length former.now))) }
 {
     let taken = taken(alloc, former)?;
     let free = free(alloc, &taken, former.len() as u32)?;
@@ -21,7 +22,7 @@ pub(crate) fn keys(alloc: Global, former: &[Option<u32>]) -> Result<Vec<u32>, No
 
 /// The keys among these that are there.
 fn taken(alloc: Global, kept: &[Option<u32>]) -> Result<Vec<u32>, NoMemory>
-    ensures { IfOk result (λ v. v.items ≡ taken_in kept.now) }
+    ensures { MakesList result (taken_in kept.now) }
 {
     kept.iter().filter_map(|key| *key).collect(alloc)
 }
@@ -29,7 +30,7 @@ fn taken(alloc: Global, kept: &[Option<u32>]) -> Result<Vec<u32>, NoMemory>
 /// The numbers from 2 on that aren't taken, among so many.
 fn free(alloc: Global, taken: &[u32], count: u32) -> Result<Vec<u32>, NoMemory>
     requires { count ≤ MOST_OBJECTS }
-    ensures { IfOk result (λ v. v.items ≡ free_keys taken.now count) }
+    ensures { MakesList result (free_keys taken.now count) }
 {
     let is_taken = marks(alloc, taken, count + 2)?;
     let mut free = Vec::new(alloc);
@@ -65,7 +66,7 @@ fn mark(marks: &mut [bool], number: usize)
 
 /// Each key, with the free ones in order where there is none.
 fn fill(alloc: Global, kept: &[Option<u32>], free: &[u32]) -> Result<Vec<u32>, NoMemory>
-    ensures { IfOk result (λ v. v.items ≡ fill_keys kept.now free.now) }
+    ensures { MakesList result (fill_keys kept.now free.now) }
 {
     let mut keys = Vec::new(alloc);
     let mut used = 0;

@@ -1,13 +1,14 @@
 //! The sizes of objects, and the limits of a generation.
 ghost use Rattle.std.specs.Prelude.{◌≡◌, ◌≤◌, ◌<◌, ◌+◌, List, [], None, Some, length, map, sum, IfOk, Ok, Err};
 ghost use Rattle.std.specs.List.{All, find};
-ghost use Rattle.oc_bytes.specs.Outcome.{Gives};
+ghost use Rattle.oc_bytes.specs.Outcome.{Gives, MakesList};
 ghost use Rattle.generation.specs.Limits.{check_of, limit_cause, unless_passed};
 ghost use Rattle.std.specs.Option.{option_map};
 ghost use Rattle.generation.specs.Sizes.{large_size};
 ghost use Rattle.generation.specs.Publication.{Spot as SpotFields, size_of as size_in, is_large_folder, large_folder, binding_rest as rest_of, limit_of};
 ghost use Rattle.path_tree.specs.Trees.{Tree, IsTree};
-ghost use Rattle.generation.specs.View.{view_spot, IsSpotIn, AreSpotsOf, IsWeighed};
+ghost use Rattle.generation.specs.View.{view_spot};
+ghost use Rattle.generation.specs.Inner.View.{IsSpotIn, AreSpotsOf, IsWeighed};
 
 use crate::spots::{Spot, content_of, name_of, path_of, spots};
 use biop_object::{FILE_BINDING, FILE_FRONT, FOLDER_BINDING, FOLDER_FRONT, MOST_FOLDER_SIZE};
@@ -71,7 +72,7 @@ pub struct Publishable {
 
 impl Model for Publishable {
     ghost use Rattle.path_tree.specs.Trees.{Tree};
-    ghost use Rattle.generation.specs.View.{IsChecked};
+    ghost use Rattle.generation.specs.Inner.View.{IsChecked};
 
     ghost Value = { Tree };
 
@@ -213,9 +214,8 @@ fn front_of(tree: &Tree, spot: Spot) -> Result<Path, NoMemory>
 fn sizes(alloc: Global, tree: &Tree, spots: &[Spot]) -> Result<Vec<u32>, NoMemory>
     requires spots { AreSpotsOf tree.now spots.now }
     requires few { length spots.now ≤ MOST_OBJECTS }
-    ensures { IfOk result (λ v.
-        v.items
-        ≡ map (size_in (map (view_spot tree.now) spots.now)) (map (view_spot tree.now) spots.now)) }
+    ensures { MakesList result
+        (map (size_in (map (view_spot tree.now) spots.now)) (map (view_spot tree.now) spots.now)) }
 {
     let mut sizes = own_sizes(alloc, tree, spots)?;
     for spot in spots {
@@ -229,7 +229,7 @@ fn sizes(alloc: Global, tree: &Tree, spots: &[Spot]) -> Result<Vec<u32>, NoMemor
 /// The sizes of a tree's objects without bindings.
 fn own_sizes(alloc: Global, tree: &Tree, spots: &[Spot]) -> Result<Vec<u32>, NoMemory>
     requires { All (IsSpotIn tree.now) spots.now }
-    ensures { IfOk result (λ v. v.items ≡ map (size_in []) (map (view_spot tree.now) spots.now)) }
+    ensures { MakesList result (map (size_in []) (map (view_spot tree.now) spots.now)) }
 {
     let mut sizes = Vec::with_capacity(alloc, spots.len())?;
     for spot in spots {

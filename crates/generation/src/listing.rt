@@ -1,9 +1,11 @@
 //! The objects of a generation as callers see them.
 ghost use Rattle.std.specs.Prelude.{◌≡◌, [], map, IfOk};
 ghost use Rattle.std.specs.List.{All};
+ghost use Rattle.oc_bytes.specs.Outcome.{MakesList};
 ghost use Rattle.path_tree.specs.Trees.{IsTree};
 ghost use Rattle.generation.specs.Objects.{kind_of, object_of};
-ghost use Rattle.generation.specs.View.{view_placed, view_spot, IsSpotIn};
+ghost use Rattle.generation.specs.View.{view_placed, view_spot, all_placed};
+ghost use Rattle.generation.specs.Inner.View.{IsSpotIn};
 
 use crate::objects::Placed;
 use crate::spots::{Spot, content_of, path_of};
@@ -39,7 +41,7 @@ pub(crate) fn list_objects(
 ) -> Result<Vec<Object>, NoMemory>
     requires tree { IsTree tree.now }
     requires spots { All (λ o. IsSpotIn tree.now o.spot) objects.now }
-    ensures { IfOk result (λ v. v.items ≡ map object_of (map (view_placed tree.now) objects.now)) }
+    ensures { MakesList result (map object_of (all_placed tree.now objects.now)) }
 {
     let mut list = Vec::new(alloc);
     for object in objects {

@@ -1,18 +1,20 @@
 ghost use Rattle.std.specs.Prelude.{◌≡◌, ◌==◌, ◌<◌, ◌≤◌, ◌+◌, ◌++◌, ◌∷◌, [], List, ℕ, None, Some, Ok, map, length, get_or, nat_lt, true, false, IfOk, IfSome, IsSome, OnErr};
-ghost use Rattle.std.specs.List.{All, Contains, count_by, range_with_len};
+ghost use Rattle.std.specs.List.{All, Contains, find};
 ghost use Rattle.std.specs.Option.{option_map};
+ghost use Rattle.oc_bytes.specs.Outcome.{MakesList};
 ghost use Rattle.path_tree.specs.Edits.{apply_all};
 ghost use Rattle.path_tree.specs.Trees.{Tree};
 ghost use Rattle.biop_object.specs.Names.{Layout, module_in};
 ghost use Rattle.cycle_planner.specs.Cycle.{AreLines};
 ghost use Rattle.dsmcc_section.specs.Sections.{IsFramed};
-ghost use Rattle.generation.specs.Layouts.{GenerationState, first_of, next_of, lines_of, lines_in, items_of, section_of, count_in as count_at, ids_counted as ids, layout_of, module_if_used, greatest, placed_all, keys_of, modules_for};
+ghost use Rattle.generation.specs.Layouts.{GenerationState, first_of, next_of, lines_of, lines_in, items_of, section_of, count_in as count_at, ids_counted as ids, counts_after, one_if_changed, layout_of, module_if_used, greatest, placed_all, keys_of, modules_for};
 ghost use Rattle.generation.specs.Kept.{StandsFor};
 ghost use Rattle.generation.specs.Publication.{limit_of, spots_of};
 ghost use Rattle.generation.specs.Objects.{object_of};
 ghost use Rattle.generation.specs.Inner.Stays.{AreAsBefore, AreTheirs};
 ghost use Rattle.generation.specs.Inner.Grouped.{AreGrouped};
-ghost use Rattle.generation.specs.View.{IsWeighed, view_listed, view_placed, AreReady, AreOld, IsMarked, AreMarked, IsRising, IsSpotIn, is_raised};
+ghost use Rattle.generation.specs.View.{view_listed, IsRising, all_placed};
+ghost use Rattle.generation.specs.Inner.View.{IsWeighed, AreReady, AreOld, IsMarked, AreMarked, IsSpotIn};
 ghost use Rattle.dsi_dii.specs.declared.TheConstants.{LAST_GENERATION, MOST_TOTAL_SIZE};
 ghost use Rattle.module_groups.specs.declared.TheConstants.{GREATEST_ID};
 
@@ -20,14 +22,15 @@ use crate::control::{block_of_module, dii_section, dsi_section};
 use crate::former::{former_of, modules};
 use crate::keys::keys;
 use crate::limit::{Publishable, Weighed, measure};
+use crate::links::has_members;
 use crate::listing::{Object, list_objects};
 use crate::objects::{Grouped, Placed, group_all, module_bytes, place_all};
 use crate::spots::{Spot, is_equal};
 use crate::unchanged::{modules_that_stay, named_entries};
 use biop_object::Module;
+use carousel_profile::BLOCK_SIZE;
 use cycle_planner::Item;
 use ddb_block::block_count;
-use dsi_dii::BLOCK_SIZE;
 use oc_bytes::{Blob, NoMemory};
 use path_tree::{Edit, Tree};
 use std::alloc::Global;
@@ -65,7 +68,8 @@ impl Model for Generation {
 
     ghost Value = { GenerationState };
 
-    ghost use Rattle.generation.specs.View.{view_generation, IsMade};
+    ghost use Rattle.generation.specs.View.{view_generation};
+    ghost use Rattle.generation.specs.Inner.View.{IsMade};
 
     ghost view = { view_generation };
 
@@ -205,7 +209,7 @@ impl Generation {
 
     /// The objects in the order of paths, each with the module that it lies in. The only refusal is out of memory.
     pub fn objects(&self) -> Result<Vec<Object>, NoMemory>
-        ensures { IfOk result (λ v. v.items ≡ map object_of self.now.objects) }
+        ensures { MakesList result (map object_of self.now.objects) }
     {
         list_objects(self.alloc, &self.tree, &self.objects)
     }
@@ -256,7 +260,7 @@ impl Generation {
     /// the generation. A stream of sections can be cut by it. The only refusal is out of memory.
     pub fn section(&self, item: Item) -> Result<Vec<u8>, NoMemory>
         requires { Contains (items_of self.now) item }
-        ensures exact { IfOk result (λ bytes. bytes.items ≡ section_of self.now item) }
+        ensures exact { MakesList result (section_of self.now item) }
         ensures framed { IfOk result (λ bytes. IsFramed bytes.items) }
     {
         match item {
@@ -292,17 +296,16 @@ fn objects_after(
     requires tree { limit_of tree.now ≡ None }
     requires weighed { IsWeighed tree.now weighed.now }
     requires spots { All (λ o. IsSpotIn old_tree.now o.spot) old.now }
-    requires old { AreOld (map (view_placed old_tree.now) old.now) }
+    requires old { AreOld (all_placed old_tree.now old.now) }
     ensures objects { IfOk result (λ v.
-        map (view_placed tree.now) v.items
+        all_placed tree.now v.items
         ≡ placed_all (spots_of tree.now)
-        (keys_of (map (view_placed old_tree.now) old.now) (spots_of tree.now))
-        (modules_for (map (view_placed old_tree.now) old.now) tree.now)) }
+        (keys_of (all_placed old_tree.now old.now) (spots_of tree.now))
+        (modules_for (all_placed old_tree.now old.now) tree.now)) }
     ensures ready { IfOk result (λ v. (carousel : ℕ) → AreReady carousel tree.now v.items) }
-    ensures old { IfOk result (λ v. AreOld (map (view_placed tree.now) v.items)) }
+    ensures old { IfOk result (λ v. AreOld (all_placed tree.now v.items)) }
     ensures lines { IfOk result (λ v.
-        (carousel : ℕ)
-        → AreLines (lines_in (layout_of carousel (map (view_placed tree.now) v.items)))) }
+        (carousel : ℕ) → AreLines (lines_in (layout_of carousel (all_placed tree.now v.items)))) }
 {
     let former = former_of(alloc, old, old_tree, &weighed.spots, tree)?;
     let modules = modules(alloc, &weighed.sizes, &former.modules)?;
@@ -322,10 +325,10 @@ fn modules_of(
 ) -> Result<Vec<Listed>, NoMemory>
     requires ready { AreReady carousel tree.now objects.now }
     requires before { IsRising (map view_listed before.now) }
-    requires staying { AreTheirs carousel (map (view_placed tree.now) objects.now)
+    requires staying { AreTheirs carousel (all_placed tree.now objects.now)
         (map view_listed before.now) staying.now }
     ensures layout { IfOk result (λ v.
-        map view_listed v.items ≡ layout_of carousel (map (view_placed tree.now) objects.now)) }
+        map view_listed v.items ≡ layout_of carousel (all_placed tree.now objects.now)) }
     ensures stays { IfOk result (λ v. AreMarked (map view_listed before.now) v.items) }
 {
     let grouped = group_all(alloc, objects)?;
@@ -365,14 +368,13 @@ fn listed_at(
     requires ready { AreReady carousel tree.now objects.now }
     requires grouped { AreGrouped objects.now grouped.now }
     requires before { IsRising (map view_listed before.now) }
-    requires staying { AreTheirs carousel (map (view_placed tree.now) objects.now)
+    requires staying { AreTheirs carousel (all_placed tree.now objects.now)
         (map view_listed before.now) staying.now }
     ensures listed { IfOk result (λ l.
-        option_map view_listed l
-        ≡ module_if_used carousel (map (view_placed tree.now) objects.now) id) }
+        option_map view_listed l ≡ module_if_used carousel (all_placed tree.now objects.now) id) }
     ensures stays { IfOk result (λ l. IfSome l (IsMarked (map view_listed before.now))) }
 {
-    if !grouped.modules.has_any(usize::from(id)) {
+    if !has_members(&grouped.modules, usize::from(id)) {
         return Ok(None);
     }
     if let Some(bytes) = staying_module(before, staying, id) {
@@ -434,18 +436,29 @@ fn module_after(
     })
 }
 
-/// The bytes of the module of an id among these, which rise by id. It is found by halves.
+/// The bytes of the module of an id among these, which rise by id.
 pub(crate) fn find_module(modules: &[Listed], id: u16) -> Option<&Blob>
     requires { IsRising (map view_listed modules.now) }
     ensures { option_map (λ b. b.now) result ≡ module_in (map view_listed modules.now) id }
 {
+    match find_listed(modules, usize::from(id)) {
+        Some(listed) => Some(&listed.bytes),
+        None => None,
+    }
+}
+
+/// The module of an id among these, which rise by id. It is found by halves.
+fn find_listed(modules: &[Listed], id: usize) -> Option<&Listed>
+    requires { IsRising (map view_listed modules.now) }
+    ensures { option_map (λ l. l.now) result ≡ find (λ l. l.id == id) modules.now }
+{
     let first = modules.partition_point(
         |listed: &Listed| -> bool
             ensures { result ≡ nat_lt listed.now.id id }
-        { listed.id < id },
+        { usize::from(listed.id) < id },
     );
-    if first < modules.len() && modules[first].id == id {
-        Some(&modules[first].bytes)
+    if first < modules.len() && usize::from(modules[first].id) == id {
+        Some(&modules[first])
     } else {
         None
     }
@@ -455,19 +468,32 @@ pub(crate) fn find_module(modules: &[Listed], id: u16) -> Option<&Blob>
 /// bytes.
 fn counts_next(alloc: Global, modules: &[Listed], counts: &[u64]) -> Result<Vec<u64>, NoMemory>
     requires counts { All (λ n. n < LAST_GENERATION) counts.now }
-    requires few { length modules.now ≤ GREATEST_ID }
-    ensures many { IfOk result (λ v.
-        length v.items ≡ ids (map view_listed modules.now) counts.now) }
-    ensures each { IfOk result (λ v. (m : ℕ)
-        → count_at v.items m ≡ count_at counts.now m + count_by (is_raised m) modules.now) }
+    requires rising { IsRising (map view_listed modules.now) }
+    ensures { IfOk result (λ v. (before : Layout)
+        → AreMarked before modules.now
+        → v.items ≡ counts_after before (map view_listed modules.now) counts.now) }
 {
-    let mut after = counts_before(alloc, counts, ids_counted(modules, counts))?;
-    for listed in modules {
-        if !listed.stays {
-            after[usize::from(listed.id)] += 1;
-        }
+    let end = ids_counted(modules, counts);
+    let mut after = Vec::with_capacity(alloc, end)?;
+    for id in 0..end {
+        after.push(count_in(counts, id) + changes(modules, id))?;
     }
     Ok(after)
+}
+
+/// Once, where the module of an id is listed, and is new or has other bytes.
+fn changes(modules: &[Listed], id: usize) -> u64
+    requires { IsRising (map view_listed modules.now) }
+    ensures changes { (before : Layout)
+        → AreMarked before modules.now
+        → result
+        ≡ one_if_changed (module_in before id) (module_in (map view_listed modules.now) id) }
+    ensures once { result ≤ 1 }
+{
+    match find_listed(modules, id) {
+        Some(listed) if !listed.stays => 1,
+        _ => 0,
+    }
 }
 
 /// How many ids are counted, from 0 on.
@@ -481,17 +507,6 @@ fn ids_counted(modules: &[Listed], counts: &[u64]) -> usize
     end
 }
 
-/// The count of each id below an end.
-fn counts_before(alloc: Global, counts: &[u64], end: usize) -> Result<Vec<u64>, NoMemory>
-    ensures { IfOk result (λ v. v.items ≡ map (count_at counts.now) (range_with_len 0 end)) }
-{
-    let mut before = Vec::with_capacity(alloc, end)?;
-    for id in 0..end {
-        before.push(count_in(counts, id))?;
-    }
-    Ok(before)
-}
-
 /// The count of an id, 0 where it isn't counted.
 pub(crate) fn count_in(counts: &[u64], id: usize) -> u64
     ensures { result ≡ count_at counts.now id }
@@ -502,7 +517,7 @@ pub(crate) fn count_in(counts: &[u64], id: usize) -> u64
 /// Each module with its number of blocks.
 fn lines_of_modules(alloc: Global, modules: &[Listed]) -> Result<Vec<(u16, u32)>, NoMemory>
     requires { All (λ m. length m.1 ≤ MOST_TOTAL_SIZE) (map view_listed modules.now) }
-    ensures { IfOk result (λ v. v.items ≡ lines_in (map view_listed modules.now)) }
+    ensures { MakesList result (lines_in (map view_listed modules.now)) }
 {
     let mut lines = Vec::new(alloc);
     for listed in modules {

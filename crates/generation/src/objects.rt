@@ -1,15 +1,17 @@
 //! The objects with their keys and modules, and their bytes.
 ghost use Rattle.std.specs.Prelude.{◌≡◌, ◌≤◌, ◌<◌, ◌++◌, length, map, IfOk, OnOk, false};
 ghost use Rattle.std.specs.List.{All};
+ghost use Rattle.oc_bytes.specs.Outcome.{MakesList};
 ghost use Rattle.path_tree.specs.Trees.{IsTree};
 ghost use Rattle.generation.specs.Inner.Grouped.{AreGrouped};
-ghost use Rattle.generation.specs.Inner.Linking.{members_in};
+ghost use Rattle.generation.specs.Inner.Linking.{AreMembers};
 ghost use Rattle.generation.specs.Layouts.{location_of, entries_of, object_bytes as bytes_of, module_bytes as bytes_in, key_bytes, bound_of};
-ghost use Rattle.generation.specs.View.{view_spot, view_placed, IsId, IsSpotIn, placed_from, AreFoldered, AreReady, kind_in};
+ghost use Rattle.generation.specs.View.{view_spot, view_placed, all_placed};
+ghost use Rattle.generation.specs.Inner.View.{IsId, IsSpotIn, placed_from, AreFoldered, AreReady, kind_in};
 ghost use Rattle.biop_object.specs.Objects.{folder_spelling, IsEntry};
 ghost use Rattle.biop_object.specs.declared.written.TheConstants.{MOST_FOLDER_SIZE};
 
-use crate::links::Members;
+use crate::links::{gather, members_of};
 use crate::made::last_module;
 use crate::spots::{Spot, content_of, name_of};
 use biop_object::{Bound, FolderKind, ObjectFault, Written, encode_file, encode_folder};
@@ -33,7 +35,7 @@ pub(crate) fn place_all(
     keys: &[u32],
     modules: &[u16],
 ) -> Result<Vec<Placed>, NoMemory>
-    ensures { IfOk result (λ v. v.items ≡ placed_from spots.now keys.now modules.now) }
+    ensures { MakesList result (placed_from spots.now keys.now modules.now) }
 {
     spots
         .iter()
@@ -59,8 +61,8 @@ fn key_of(alloc: Global, key: u32) -> Result<Key, NoMemory>
 /// Objects by the folder that each stands in, and by the module that each lies in.
 #[derive(Drop)]
 pub(crate) struct Grouped {
-    pub(crate) folders: Members,
-    pub(crate) modules: Members,
+    pub(crate) folders: Vec<Vec<Placed>>,
+    pub(crate) modules: Vec<Vec<Placed>>,
 }
 
 /// Puts each object to its folder and to its module, in one pass for each.
@@ -68,38 +70,24 @@ pub(crate) fn group_all(alloc: Global, objects: &[Placed]) -> Result<Grouped, No
     requires { AreFoldered objects.now }
     ensures { IfOk result (AreGrouped objects.now) }
 {
-    let folders = folders(alloc, objects)?;
-    Ok(Grouped {
-        folders: Members::new(alloc, folders, objects.len())?,
-        modules: by_module(alloc, objects)?,
-    })
+    let numbers = folders(alloc, objects)?;
+    let folders = gather(alloc, objects, &numbers, objects.len())?;
+    let modules = by_module(alloc, objects)?;
+    Ok(Grouped { folders, modules })
 }
 
 /// Objects by the module that each lies in.
-pub(crate) fn by_module(alloc: Global, objects: &[Placed]) -> Result<Members, NoMemory>
-    ensures { IfOk result (λ m. m ≡ map (λ o. Some o.module) objects.now) }
+pub(crate) fn by_module(alloc: Global, objects: &[Placed]) -> Result<Vec<Vec<Placed>>, NoMemory>
+    ensures { IfOk result (λ v. AreMembers (map (λ o. Some o.module) objects.now) objects.now
+        (map (λ m. m.items) v.items)) }
 {
     let ids = module_ids(alloc, objects)?;
-    Members::new(alloc, ids, usize::from(last_module(objects)) + 1)
-}
-
-/// The objects that lie in a module, in their order.
-pub(crate) fn members_of(
-    alloc: Global,
-    objects: &[Placed],
-    modules: &Members,
-    id: u16,
-) -> Result<Vec<Placed>, NoMemory>
-    requires { modules.now ≡ map (λ o. Some o.module) objects.now }
-    ensures { IfOk result (λ v.
-        v.items ≡ members_in id (map (λ o. Some o.module) objects.now) objects.now) }
-{
-    modules.of(alloc, objects, usize::from(id))
+    gather(alloc, objects, &ids, usize::from(last_module(objects)) + 1)
 }
 
 /// The id of the module of each object.
 fn module_ids(alloc: Global, objects: &[Placed]) -> Result<Vec<Option<usize>>, NoMemory>
-    ensures { IfOk result (λ v. v.items ≡ map (λ o. Some o.module) objects.now) }
+    ensures { MakesList result (map (λ o. Some o.module) objects.now) }
 {
     objects
         .iter()
@@ -109,7 +97,7 @@ fn module_ids(alloc: Global, objects: &[Placed]) -> Result<Vec<Option<usize>>, N
 
 /// The folder that each object stands in, by number.
 fn folders(alloc: Global, objects: &[Placed]) -> Result<Vec<Option<usize>>, NoMemory>
-    ensures { IfOk result (λ v. v.items ≡ map (λ o. o.spot.parent) objects.now) }
+    ensures { MakesList result (map (λ o. o.spot.parent) objects.now) }
 {
     objects
         .iter()
@@ -123,20 +111,21 @@ fn entries(
     carousel: u32,
     tree: &Tree,
     objects: &[Placed],
-    children: &Members,
+    children: &[Vec<Placed>],
     folder: usize,
 ) -> Result<Vec<Written>, NoMemory>
     requires tree { IsTree tree.now }
     requires objects { All (λ o. IsSpotIn tree.now o.spot) objects.now }
-    requires children { children.now ≡ map (λ o. o.spot.parent) objects.now }
+    requires children { AreMembers (map (λ o. o.spot.parent) objects.now) objects.now
+        (map (λ m. m.items) children.now) }
     requires listed { All (λ o. IsId o.«module») objects.now }
     ensures valid { IfOk result (λ v. All IsEntry v.items) }
-    ensures entries { IfOk result (λ v.
-        v.items ≡ entries_of carousel (map (view_placed tree.now) objects.now) folder) }
+    ensures entries { MakesList result
+        (entries_of carousel (all_placed tree.now objects.now) folder) }
 {
-    let members = children.of(alloc, objects, folder)?;
+    let members = members_of(children, folder);
     let mut entries = Vec::new(alloc);
-    for child in &members {
+    for child in members {
         entries.push(written(alloc, carousel, tree, *child)?)?;
     }
     Ok(entries)
@@ -183,23 +172,20 @@ fn object_bytes(
     carousel: u32,
     tree: &Tree,
     objects: &[Placed],
-    children: &Members,
+    children: &[Vec<Placed>],
     object: Placed,
 ) -> Result<Vec<u8>, NoMemory>
     requires tree { IsTree tree.now }
     requires objects { All (λ o. IsSpotIn tree.now o.spot) objects.now }
-    requires children { children.now ≡ map (λ o. o.spot.parent) objects.now }
+    requires children { AreMembers (map (λ o. o.spot.parent) objects.now) objects.now
+        (map (λ m. m.items) children.now) }
     requires object { IsSpotIn tree.now object.spot }
     requires listed { All (λ o. IsId o.«module») objects.now }
     requires small { object.spot.whole ≡ false
-        → length
-        (bytes_of carousel (map (view_placed tree.now) objects.now)
-        (view_placed tree.now object))
+        → length (bytes_of carousel (all_placed tree.now objects.now) (view_placed tree.now object))
         ≤ MOST_FOLDER_SIZE }
-    ensures { IfOk result (λ v.
-        v.items
-        ≡ bytes_of carousel (map (view_placed tree.now) objects.now)
-        (view_placed tree.now object)) }
+    ensures { MakesList result
+        (bytes_of carousel (all_placed tree.now objects.now) (view_placed tree.now object)) }
 {
     let key = key_of(alloc, object.key)?;
     if object.spot.whole {
@@ -220,7 +206,7 @@ fn folder_bytes(
     requires entries { All IsEntry entries.now }
     requires small { length (folder_spelling (kind_in names) key.now entries.now)
         ≤ MOST_FOLDER_SIZE }
-    ensures { IfOk result (λ v. v.items ≡ folder_spelling (kind_in names) key.now entries.now) }
+    ensures { MakesList result (folder_spelling (kind_in names) key.now entries.now) }
 {
     let kind = if names == 0 {
         FolderKind::Gateway
@@ -245,12 +231,11 @@ pub(crate) fn module_bytes(
 ) -> Result<Vec<u8>, NoMemory>
     requires ready { AreReady carousel tree.now objects.now }
     requires grouped { AreGrouped objects.now grouped.now }
-    ensures { IfOk result (λ v.
-        v.items ≡ bytes_in carousel (map (view_placed tree.now) objects.now) id) }
+    ensures { MakesList result (bytes_in carousel (all_placed tree.now objects.now) id) }
 {
-    let members = members_of(alloc, objects, &grouped.modules, id)?;
+    let members = members_of(&grouped.modules, usize::from(id));
     let mut bytes = Vec::new(alloc);
-    for object in &members {
+    for object in members {
         append(
             &mut bytes,
             object_bytes(alloc, carousel, tree, objects, &grouped.folders, *object)?,

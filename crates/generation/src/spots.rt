@@ -1,17 +1,16 @@
 //! The objects of a tree, in order, without a copy of their paths.
-ghost use Rattle.std.specs.Prelude.{◌≡◌, ◌≤◌, ◌<◌, ◌+◌, ◌++◌, length, map, take, false, IfOk, OnOk};
+ghost use Rattle.std.specs.Prelude.{◌≡◌, ◌≤◌, ◌<◌, length, map, take, IfOk};
 ghost use Rattle.std.specs.List.{All};
-ghost use Rattle.path_tree.specs.Nestings.{nested};
 ghost use Rattle.path_tree.specs.Paths.{path_cmp, same_name};
 ghost use Rattle.path_tree.specs.Trees.{IsTree};
-ghost use Rattle.path_tree.specs.declared.text.TheConstants.{MOST_NAMES};
 ghost use Rattle.path_tree.specs.declared.tree.TheConstants.{MOST_CONTENT};
-ghost use Rattle.generation.specs.Publication.{spots_in, spots_of};
-ghost use Rattle.generation.specs.Inner.Segments.{IsFolderAt, HaveName, segment, stripped, within, name_at, first_inside as inside_of, first_spot as object_at};
-ghost use Rattle.generation.specs.View.{view_spot, path_at, bytes_at, IsSpotIn};
+ghost use Rattle.generation.specs.Publication.{spots_of};
+ghost use Rattle.generation.specs.Inner.Passing.{shared, path_before, spot_at};
+ghost use Rattle.generation.specs.View.{view_spot, item_at, path_at, bytes_at};
+ghost use Rattle.generation.specs.Inner.View.{IsSpotIn};
 
 use oc_bytes::NoMemory;
-use path_tree::{Entry, Path, Tree};
+use path_tree::{Entry, MOST_NAMES, Path, Tree};
 use std::alloc::Global;
 use std::cmp::Ordering;
 
@@ -38,7 +37,8 @@ impl Spot {
     };
 }
 
-/// The objects of a tree: the gateway first, and then by path, in one pass.
+/// The objects of a tree: the gateway first, and then by path, in one pass. Of each entry's path those names are objects that the path
+/// before it didn't have, and each stands in the last object of one name less.
 pub(crate) fn spots(alloc: Global, tree: &Tree) -> Result<Vec<Spot>, NoMemory>
     ensures spots { IfOk result (λ v. map (view_spot tree.now) v.items ≡ spots_of tree.now) }
     ensures valid { IfOk result (λ v. All (IsSpotIn tree.now) v.items) }
@@ -47,59 +47,25 @@ pub(crate) fn spots(alloc: Global, tree: &Tree) -> Result<Vec<Spot>, NoMemory>
     let entries = tree.entries();
     let mut spots = Vec::new(alloc);
     spots.push(Spot::GATEWAY)?;
-    push_folder(entries, 0, entries.len(), 0, 0, &mut spots)?;
+    let mut folders = vec![in alloc; 0; MOST_NAMES + 1]?;
+    for at in 0..entries.len() {
+        for depth in shared_before(entries, at)..entries[at].0.len() {
+            let number = spots.len();
+            spots.push(spot_of(entries, at, depth, number, folders[depth]))?;
+            folders[depth + 1] = number;
+        }
+    }
     Ok(spots)
 }
 
-/// Appends what stands in a folder, by path: each object, and after a folder what stands in it. The folder has the number
-/// `parent`, and the entries below it are those from one number up to another; their paths begin with `depth` names, those
-/// of the folder.
-fn push_folder(
-    entries: &[(Path, Entry)],
-    from: usize,
-    to: usize,
-    depth: usize,
-    parent: usize,
-    spots: &mut Vec<Spot>,
-) -> Result<(), NoMemory>
-    requires tree { IsTree entries.now }
-    requires folder { IsFolderAt entries.now from to depth }
-    requires valid { All (IsSpotIn entries.now) spots.old.items }
-    ensures spots { OnOk result
-        (map (view_spot entries.now) spots.new.items
-        ≡ map (view_spot entries.now) spots.old.items
-        ++ map (within (take depth (path_at entries.now from)))
-        (spots_in parent (length spots.old.items)
-        (nested (stripped depth (segment entries.now from to))))) }
-    ensures valid { OnOk result (All (IsSpotIn entries.now) spots.new.items) }
-{
-    let mut at = from;
-    while at < to {
-        let end = end_of(entries, at, to, depth);
-        let number = spots.len();
-        let spot = first_spot(entries, at, depth, number, parent);
-        spots.push(spot)?;
-        let inside = first_inside(entries, at, depth);
-        push_folder(entries, inside, end, depth + 1, number, spots)?;
-        at = end;
-    }
-    Ok(())
-}
-
-/// The object of the first names of an entry's path, one more than the depth: the entry itself, or a folder above it.
-fn first_spot(
-    entries: &[(Path, Entry)],
-    at: usize,
-    depth: usize,
-    number: usize,
-    parent: usize,
-) -> Spot
+/// The object of the names of an entry's path up to the one at a depth: the entry itself, or a folder above it.
+fn spot_of(entries: &[(Path, Entry)], at: usize, depth: usize, number: usize, parent: usize) -> Spot
     requires few { depth < MOST_NAMES }
     requires within { at < length entries.now }
     requires name { depth < length (path_at entries.now at) }
     ensures valid { IsSpotIn entries.now result }
-    ensures spot { view_spot entries.now result ≡ object_at entries.now at depth number parent }
-    ensures names { result.names ≡ depth + 1 }
+    ensures spot { view_spot entries.now result
+        ≡ spot_at (item_at entries.now at) depth number parent }
 {
     let (path, entry) = &entries[at];
     Spot {
@@ -111,48 +77,30 @@ fn first_spot(
     }
 }
 
-/// The number of the first entry that lies below an object whose first entry has the number `at`: the entry after it, where
-/// that entry is the object's own.
-fn first_inside(entries: &[(Path, Entry)], at: usize, depth: usize) -> usize
-    requires few { depth < MOST_NAMES }
-    requires within { at < length entries.now }
-    requires name { depth < length (path_at entries.now at) }
-    ensures { result ≡ inside_of entries.now at depth }
+/// With how many names an entry's path begins like the path of the entry before it.
+fn shared_before(entries: &[(Path, Entry)], at: usize) -> usize
+    requires { at < length entries.now }
+    ensures shared { result ≡ shared (path_before entries.now at) (path_at entries.now at) }
+    ensures within { result ≤ length (path_at entries.now at) }
 {
-    if entries[at].0.len() == depth + 1 {
-        at + 1
-    } else {
-        at
+    if at == 0 {
+        return 0;
     }
+    shared_names(&entries[at - 1].0, &entries[at].0)
 }
 
-/// The number of the first entry from `at` on that has another name at the depth than the entry at `at`, or `to`.
-fn end_of(entries: &[(Path, Entry)], at: usize, to: usize, depth: usize) -> usize
-    requires at { at < to }
-    requires folder { IsFolderAt entries.now at to depth }
-    ensures after { at < result }
-    ensures within { result ≤ to }
-    ensures same { HaveName entries.now at result depth (name_at entries.now at depth) }
-    ensures other { result < to
-        → same_name (name_at entries.now at depth) (name_at entries.now result depth) ≡ false }
+/// With how many names two paths begin alike.
+fn shared_names(a: &Path, b: &Path) -> usize
+    ensures shared { result ≡ shared a.now b.now }
+    ensures within { result ≤ length b.now }
 {
-    for end in at + 1..to {
-        if !has_same_name(entries, at, end, depth) {
-            return end;
+    let least = a.len().min(b.len());
+    for i in 0..least {
+        if !is_equal(a.name(i), b.name(i)) {
+            return i;
         }
     }
-    to
-}
-
-/// Whether the paths of two entries have the same name at a depth.
-fn has_same_name(entries: &[(Path, Entry)], one: usize, other: usize, depth: usize) -> bool
-    requires one_within { one < length entries.now }
-    requires other_within { other < length entries.now }
-    requires one_name { depth < length (path_at entries.now one) }
-    requires other_name { depth < length (path_at entries.now other) }
-    ensures { result ≡ same_name (name_at entries.now one depth) (name_at entries.now other depth) }
-{
-    is_equal(entries[one].0.name(depth), entries[other].0.name(depth))
+    least
 }
 
 /// The path of one of a tree's entries.

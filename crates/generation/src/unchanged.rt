@@ -6,11 +6,13 @@ ghost use Rattle.path_tree.specs.Edits.{apply_all};
 ghost use Rattle.path_tree.specs.Trees.{Tree as TreeFiles, IsTree};
 ghost use Rattle.generation.specs.Layouts.{Placed as PlacedState, greatest, object_bytes};
 ghost use Rattle.generation.specs.Inner.Stays.{AreAsBefore, SameModules, bytes_of_all};
-ghost use Rattle.generation.specs.View.{view_placed, IsSpotIn};
+ghost use Rattle.generation.specs.View.{view_placed, all_placed};
+ghost use Rattle.generation.specs.Inner.View.{IsSpotIn};
 ghost use Rattle.module_groups.specs.declared.TheConstants.{GREATEST_ID};
 
+use crate::links::members_of;
 use crate::made::last_module;
-use crate::objects::{Placed, by_module, members_of};
+use crate::objects::{Placed, by_module};
 use crate::spots::compare;
 use oc_bytes::NoMemory;
 use path_tree::{Edit, Tree, others_stay};
@@ -53,16 +55,15 @@ pub(crate) fn modules_that_stay(
     requires numbers { greatest (map (λ o. o.«module») objects.now) ≤ GREATEST_ID }
     requires named { AreAsBefore old_tree.now tree.now named.now }
     ensures { IfOk result (λ v.
-        SameModules (map (view_placed old_tree.now) old.now)
-        (map (view_placed tree.now) objects.now) v.items) }
+        SameModules (all_placed old_tree.now old.now) (all_placed tree.now objects.now) v.items) }
 {
     let old_members = by_module(alloc, old)?;
     let members = by_module(alloc, objects)?;
     let mut staying = Vec::new(alloc);
     for id in 0..last_module(objects) + 1 {
-        let before = members_of(alloc, old, &old_members, id)?;
-        let after = members_of(alloc, objects, &members, id)?;
-        staying.push(are_same_files(old_tree, &before, tree, &after, named))?;
+        let before = members_of(&old_members, usize::from(id));
+        let after = members_of(&members, usize::from(id));
+        staying.push(are_same_files(old_tree, before, tree, after, named))?;
     }
     Ok(staying)
 }

@@ -10,7 +10,7 @@ use Rattle.cycle_planner.specs.Walks.{IsWalk, left_of}
 use Rattle.cycle_planner.specs.declared.walk.Walk.{Walk}
 use Rattle.cycle_planner.specs.declared.Item.{Item}
 use Rattle.generation_catalogue.specs.declared.journal.Stand.{Stand}
-use Rattle.generation_catalogue.specs.Kept.{StandsAt, StandsIn, with_next}
+use Rattle.generation_catalogue.specs.Inner.Kept.{StandsAt, StandsIn, with_next}
 use Rattle.generation.specs.Layouts.{GenerationState, items_of, lines_of}
 use Rattle.generation_catalogue.specs.History.{CatalogueState, current_of, cursor_of, count_drawn, cycle_in, draws_of, items_drawn}
 use Rattle.generation_catalogue.specs.Calls.{BatchFields, view_batch, batch_of, draw_cause, IsDrawn}

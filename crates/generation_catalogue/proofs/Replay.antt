@@ -31,7 +31,8 @@ use Rattle.generation_catalogue.specs.declared.entry.Entry.{Entry}
 use Rattle.generation_catalogue.specs.declared.entry.Entry.TheVariants as entries
 use Rattle.generation_catalogue.specs.declared.entry.CommitFault.{CommitFault}
 use Rattle.generation_catalogue.specs.History.{CatalogueState, put_bytes, put_bytes_of, is_draw, draws_of, drawn_since, cycle_in, cursor_of, count_drawn, with_draw, or_same, last_tree, with_tree, trees_after, trees_of, current_of, journal_of, refusal_of, unless_limit, unless_edit, outcome_of, is_entered, with_entry, entry_after, IsEntered, IsHistory}
-use Rattle.generation_catalogue.specs.Requests.{commit_cause, of_edits, of_limit, generation_after}
+use Rattle.generation_catalogue.specs.Requests.{commit_cause, of_edits, of_limit}
+use Rattle.generation_catalogue.specs.Inner.Requests.{generation_after}
 
 -- ---- the trees
 

@@ -1,13 +1,9 @@
 -- Refusals as definitions see them.
-use Rattle.std.specs.Prelude.{List, Option, Some, None}
-use Rattle.path_tree.specs.Edits.{apply_all}
-use Rattle.path_tree.specs.declared.tree.Edit.{Edit}
+use Rattle.std.specs.Prelude.{Option, Some, None}
 use Rattle.path_tree.specs.declared.tree.ApplyFault.{ApplyFault}
 use Rattle.path_tree.specs.declared.tree.ApplyFault.TheVariants as apply_faults
 use Rattle.generation.specs.declared.limit.Limit.{Limit}
 use Rattle.generation.specs.declared.limit.Limit.TheVariants as limits
-use Rattle.generation.specs.Layouts.{GenerationState, next_of}
-use Rattle.generation_catalogue.specs.History.{CatalogueState, current_of, trees_of, last_tree, or_same}
 use Rattle.generation_catalogue.specs.declared.entry.Refusal.{Refusal}
 use Rattle.generation_catalogue.specs.declared.entry.Refusal.TheVariants as refusals
 use Rattle.generation_catalogue.specs.declared.entry.CommitFault.{CommitFault}
@@ -28,7 +24,3 @@ of_limit (limits.FolderTooLarge p) = faults.Refused (refusals.FolderTooLarge p)
 of_limit (limits.TooManyBytes n) = faults.Refused (refusals.TooManyBytes n)
 of_limit (limits.TooManyModules n) = faults.Refused (refusals.TooManyModules n)
 of_limit limits.NoMemory = faults.NoMemory
-
--- the generation that an accepted commit makes
-abbrev pub generation_after : CatalogueState → List Edit → GenerationState
-generation_after c edits = next_of (current_of c) (or_same (last_tree (trees_of c)) (apply_all (last_tree (trees_of c)) edits))

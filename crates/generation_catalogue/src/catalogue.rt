@@ -1,9 +1,8 @@
 ghost use Rattle.std.specs.Prelude.{◌≡◌, ◌≤◌, ◌∷◌, [], length, IfOk};
 ghost use Rattle.std.specs.Arc.{arc_value};
-ghost use Rattle.std.specs.List.{All, Contains};
 ghost use Rattle.generation.specs.Kept.{layouts_of};
 ghost use Rattle.generation.specs.Lawful.{Lawful};
-ghost use Rattle.generation.specs.Layouts.{items_of};
+ghost use Rattle.generation.specs.Layouts.{AreItemsOf};
 ghost use Rattle.generation_catalogue.specs.History.{IsHistory, current_of, trees_of};
 ghost use Rattle.generation_catalogue.specs.Calls.{IsCommitted, IsDrawn};
 ghost use Rattle.cycle_planner.specs.declared.TheConstants.{MOST_DRAWN};
@@ -85,8 +84,7 @@ impl Catalogue {
         requires { (1 ≤ n) × (n ≤ MOST_DRAWN) }
         ensures drawn { IsDrawn (state self.old) n result (state self.new) }
         ensures some { IfOk result (λ b. (1 ≤ length b.items.items) × (length b.items.items ≤ n)) }
-        ensures items { IfOk result (λ b.
-            All (λ item. Contains (items_of (arc_value b.generation)) item) b.items.items) }
+        ensures items { IfOk result (λ b. AreItemsOf (arc_value b.generation) b.items.items) }
     {
         self.journal.draw(&self.weigh, n)
     }

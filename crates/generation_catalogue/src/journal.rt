@@ -1,14 +1,14 @@
 ghost use Rattle.std.specs.Prelude.{◌≡◌, ◌+◌, ◌<◌, ◌≤◌, [], ◌⊎◌, length, take, drop, is_some, ◌==◌, if◌then◌else◌, true, Ok, Err, IfOk, OnOk, OnErr, IsErrOf};
 ghost use Rattle.std.specs.Arc.{arc_value};
-ghost use Rattle.std.specs.List.{All, Contains};
 ghost use Rattle.oc_bytes.specs.Outcome.{Gives, cap_at_u64};
 ghost use Rattle.cycle_planner.specs.Weights.{AreWeights};
 ghost use Rattle.generation.specs.Lawful.{IsPublishable};
-ghost use Rattle.generation.specs.Layouts.{items_of};
+ghost use Rattle.generation.specs.Layouts.{AreItemsOf};
 ghost use Rattle.generation_catalogue.specs.History.{IsHistory, current_of, journal_of, put_bytes, put_size, outcome_of, is_entered, with_commit, cursor_of, draws_of, items_drawn, count_drawn, with_draw};
-ghost use Rattle.generation_catalogue.specs.Requests.{commit_cause, generation_after};
+ghost use Rattle.generation_catalogue.specs.Requests.{commit_cause};
+ghost use Rattle.generation_catalogue.specs.Inner.Requests.{generation_after};
 ghost use Rattle.generation_catalogue.specs.Calls.{IsCommitted, IsDrawn};
-ghost use Rattle.generation_catalogue.specs.Kept.{StandsIn, with_next};
+ghost use Rattle.generation_catalogue.specs.Inner.Kept.{StandsIn, with_next};
 ghost use Rattle.cycle_planner.specs.Walks.{IsWalk, left_of};
 ghost use Rattle.cycle_planner.specs.declared.TheConstants.{MOST_DRAWN};
 
@@ -57,7 +57,8 @@ impl Model for Journal {
 
     ghost Value = { CatalogueState };
 
-    ghost use Rattle.generation_catalogue.specs.Kept.{view_journal, IsJournal};
+    ghost use Rattle.generation_catalogue.specs.Kept.{view_journal};
+    ghost use Rattle.generation_catalogue.specs.Inner.Kept.{IsJournal};
 
     ghost view = { view_journal };
 
@@ -218,8 +219,7 @@ impl Journal {
         ensures drawn { IsDrawn self.old asked result self.new }
         ensures some { IfOk result (λ b.
             (1 ≤ length b.items.items) × (length b.items.items ≤ asked)) }
-        ensures items { IfOk result (λ b.
-            All (λ item. Contains (items_of (arc_value b.generation)) item) b.items.items) }
+        ensures items { IfOk result (λ b. AreItemsOf (arc_value b.generation) b.items.items) }
     {
         self.draw_next(weigh, asked)
     }

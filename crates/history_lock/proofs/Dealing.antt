@@ -8,8 +8,10 @@ use Rattle.atomic_table.specs.declared.shared.Seat.{Seat}
 use Rattle.history_lock.specs.declared.rule.View.{View}
 use Rattle.history_lock.specs.declared.pass.Pass.{Pass}
 use Rattle.history_lock.specs.declared.lock.HistoryLock.{HistoryLock}
-use Rattle.history_lock.specs.History.{Begins, times, total, Each, newcomer, kept_part, given_part, join_views, once_within, Chronicle}
-use Rattle.history_lock.specs.Passes.{IsPassOf, AreFresh, HasAll, seats_of, opening_of, owners, seen_of, own_of, number_of}
+use Rattle.history_lock.specs.History.{Begins, times, total, Each, once_within}
+use Rattle.history_lock.specs.Inner.History.{newcomer, kept_part, given_part, join_views, Chronicle}
+use Rattle.history_lock.specs.Passes.{IsPassOf, AreFresh, seats_of, opening_of, owners, seen_of, own_of, number_of}
+use Rattle.history_lock.specs.Inner.Passes.{HasAll}
 use Rattle.history_lock.proofs.Lists.{times_append, total_push, each_both}
 use Rattle.history_lock.proofs.Steps.{closes}
 

@@ -10,7 +10,8 @@ use prog.Atomic.{either}
 use Rattle.atomic_table.specs.Table.{State, Me, step, keeps, takes, gives, stepped, Allows, Splits, Joins, opening, Final, Seen, rest}
 use Rattle.atomic_table.proofs.Lists.{at_set, set_again, at_snoc, at_longer, set_else}
 use Rattle.history_lock.specs.declared.rule.View.{View}
-use Rattle.history_lock.specs.History.{Begins, times, places, once_within, total, Each, newcomer, spent_view, kept_part, given_part, join_views, while_held, after_release, Fits, Chronicle, HasTaken, HasFreed}
+use Rattle.history_lock.specs.History.{Begins, times, places, once_within, total, Each}
+use Rattle.history_lock.specs.Inner.History.{newcomer, spent_view, kept_part, given_part, join_views, while_held, after_release, Fits, Chronicle, HasTaken, HasFreed}
 use Rattle.history_lock.proofs.Lists.{begins_self, begins_on, begins_le, each_on, each_both, times_append, once_more, once_nowhere, here_set, total_set, total_same, total_push, total_two, total_alone}
 
 off : false ≡ true → ⊥

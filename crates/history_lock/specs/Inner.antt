@@ -1,2 +1,3 @@
 -- What private functions and invariants are stated in; no public contract names it.
-pub mod Holds
+pub mod History
+pub mod Passes

@@ -15,7 +15,7 @@ pub struct Hold<'a, V: Chronicled> {
 
 impl<'a, V: Chronicled> Hold<'a, V> {
     ghost use Rattle.history_lock.specs.Passes.{IsPassOf, number_of, seen_of, own_of};
-    ghost use Rattle.history_lock.specs.Inner.Holds.{IsHoldOf, lock_of, holder_of, value_of, taken_of};
+    ghost use Rattle.history_lock.specs.Holds.{IsHoldOf, lock_of, holder_of, value_of, taken_of};
     ghost use Rattle.std.specs.Borrow.{sem};
     ghost use Rattle.history_lock.specs.Lending.{LendsValue};
 

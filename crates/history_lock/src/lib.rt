@@ -46,8 +46,8 @@
 //!
 //! The lock is one word, free or held, and one slot for the value, in a table of `atomic_table`. It is changed in six kinds
 //! of atomic step: the word is taken, the value is exchanged out and in, the word is released, and passes are split off and
-//! joined. Between any two steps the table keeps one rule, `specs/History.antt`. That a hold is ever got, and in which
-//! order, is not said.
+//! joined. Between any two steps the table keeps one rule, `specs/Inner/History.antt`. That a hold is ever got, and in
+//! which order, is not said.
 #![tactic(auto)]
 
 mod chronicled;

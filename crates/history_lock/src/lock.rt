@@ -22,9 +22,11 @@ pub struct HistoryLock<V: Chronicled> {
 
 impl<V: Chronicled> HistoryLock<V> {
     ghost use Rattle.std.specs.Vec.{vec_capacity};
-    ghost use Rattle.history_lock.specs.History.{while_held, newcomer, once_within, Each};
-    ghost use Rattle.history_lock.specs.Inner.Holds.{IsHoldOf, LendsPass, holder_of, value_of, taken_of};
-    ghost use Rattle.history_lock.specs.Passes.{IsPassOf, AreAllPassesOf, AreFresh, HasAll, seats_of, opening_of, seen_of, own_of, number_of, owners};
+    ghost use Rattle.history_lock.specs.History.{once_within, Each};
+    ghost use Rattle.history_lock.specs.Inner.History.{while_held, newcomer};
+    ghost use Rattle.history_lock.specs.Holds.{IsHoldOf, LendsPass, holder_of, value_of, taken_of};
+    ghost use Rattle.history_lock.specs.Passes.{IsPassOf, AreAllPassesOf, AreFresh, seats_of, opening_of, seen_of, own_of, number_of, owners};
+    ghost use Rattle.history_lock.specs.Inner.Passes.{HasAll};
 
     /// A lock over `value`, with as many passes as `seats`, which is 1 or more. They are numbered from 0 on, in order; each
     /// has seen the value's list and has no own places. Out of memory is the only refusal, and gives the value back.

@@ -35,7 +35,7 @@ pub struct OneHistory<V> {
 }
 
 impl<V: Chronicled> TableRule<Option<V>, View<V::Entry>, Opened<V>> for OneHistory<V> {
-    ghost use Rattle.history_lock.specs.History.{Chronicle, newcomer};
+    ghost use Rattle.history_lock.specs.Inner.History.{Chronicle, newcomer};
 
     ghost holds = { λ k. Chronicle V.list k.seats (V.list k.first.value) };
 
@@ -48,7 +48,7 @@ pub struct Take<V> {
 }
 
 impl<V: Chronicled> Play<Option<V>, View<V::Entry>> for Take<V> {
-    ghost use Rattle.history_lock.specs.History.{HasTaken};
+    ghost use Rattle.history_lock.specs.Inner.History.{HasTaken};
 
     ghost then = { HasTaken V.list };
 }
@@ -59,7 +59,7 @@ pub struct Free<V> {
 }
 
 impl<V: Chronicled> Play<Option<V>, View<V::Entry>> for Free<V> {
-    ghost use Rattle.history_lock.specs.History.{HasFreed};
+    ghost use Rattle.history_lock.specs.Inner.History.{HasFreed};
 
     ghost then = { HasFreed V.list };
 }
@@ -68,7 +68,7 @@ impl<V: Chronicled> Play<Option<V>, View<V::Entry>> for Free<V> {
 pub struct Parts;
 
 impl<E> Split<View<E>> for Parts {
-    ghost use Rattle.history_lock.specs.History.{kept_part, given_part};
+    ghost use Rattle.history_lock.specs.Inner.History.{kept_part, given_part};
 
     ghost left = { kept_part };
 
@@ -76,7 +76,7 @@ impl<E> Split<View<E>> for Parts {
 }
 
 impl<E> Join<View<E>> for Parts {
-    ghost use Rattle.history_lock.specs.History.{join_views, spent_view};
+    ghost use Rattle.history_lock.specs.Inner.History.{join_views, spent_view};
 
     ghost both = { join_views };
 

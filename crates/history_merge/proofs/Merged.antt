@@ -1,32 +1,11 @@
 -- Where the opens of one reader stand in a merge, and that each merge of a session owes what it should.
-use Rattle.std.proofs.Common.{◌≡◌, ℕ, ◌<◌, List, [], ◌∷◌, length, map, get_or, sym, ap, ◌∙◌, refl, subst, arith, eq-eqb, ne_eqb, ◌≢◌, zero, suc, ◌+◌, ◌≤◌, Bool, true, false, ◌++◌, filter, drop, cond, append_assoc}
-use Rattle.std.specs.Prelude.{◌==◌, if◌then◌else◌}
-use Rattle.std.specs.List.{All, flat_map, range_with_len, count_by}
-use Rattle.std.proofs.lemmas.List.{get_or_past}
-use Rattle.std.proofs.lemmas.List.Elements.{All-from_recursion, recursion_from_All, All-map}
-use mathlib.Core.Logic.{dite}
-use native.Mathlib.Decide.{ℕ_discrete, dec_lt}
-use Rattle.ts_packet.specs.declared.Fate.{Fate}
-use Rattle.generation_catalogue.specs.History.{CatalogueState, draws_of, trees_of, IsEntered, is_draw}
-use Rattle.generation_catalogue.specs.declared.entry.Entry.{Entry}
+use Rattle.history_merge.proofs.Words.{◌≡◌, ℕ, ◌<◌, List, [], ◌∷◌, length, map, get_or, sym, ap, ◌∙◌, refl, subst, arith, eq-eqb, ne_eqb, ◌≢◌, zero, suc, ◌+◌, ◌≤◌, Bool, true, false, ◌++◌, filter, drop, cond, append_assoc, ◌==◌, if◌then◌else◌, All, flat_map, range_with_len, count_by, get_or_past, All-from_recursion, recursion_from_All, All-map, dite, ℕ_discrete, dec_lt, Fate, CatalogueState, draws_of, trees_of, IsEntered, is_draw, Entry, ArePublishable, ReaderView, Step, InRange, Reply, Each, event_of, merge_of, opened_of, has_heard, opens_by, opens_of, opens_at, merge_entries, is_commit_of, is_commit_at, IsPlaced, AreNumbers, IsReady, EveryMergeIsMerged, is_draw_step, is_open_by, map-append, sum_by-append, cond_both, OpenEntry, NeverFall, with_draws_before, PlacedStands, LastStands}
 use Rattle.generation_catalogue.specs.declared.entry.Entry.TheVariants as entries
-use Rattle.generation.specs.Lawful.{ArePublishable}
-use Rattle.open_history.specs.Opens.{ReaderView}
-use Rattle.carousel_world.specs.Events.{Step}
 use Rattle.carousel_world.specs.Promises.{EveryRunMeetsTheHeadline, world_after}
-use Rattle.carousel_world.specs.World.{InRange}
-use Rattle.carousel_world.specs.declared.event.Reply.{Reply}
-use Rattle.history_merge.specs.Merging.{Each, event_of, merge_of, opened_of, has_heard, opens_by, opens_of, opens_at, merge_entries}
-use Rattle.history_merge.specs.Merged.{is_commit_of, is_commit_at, IsPlaced, AreNumbers, IsReady, EveryMergeIsMerged, is_draw_step, is_open_by}
 use Rattle.history_merge.proofs.Ordering.{commits_stand, draws_stand, each_merged}
 use Rattle.history_merge.proofs.Numbers.{trees_same}
 use Rattle.history_merge.proofs.Parts.{rising_by, own_of}
 use Rattle.history_merge.proofs.Replying.{run_of, drawings_at_end, catalogue_at_end}
-use mathlib.Core.List.{map-append}
-use Rattle.std.proofs.lemmas.List.Sums.{sum_by-append}
-use Rattle.std.proofs.lemmas.Bool.{cond_both}
-use Rattle.open_history.specs.declared.entry.OpenEntry.{OpenEntry}
-use Rattle.history_merge.specs.Laws.{NeverFall, with_draws_before, PlacedStands, LastStands}
 use Rattle.history_merge.proofs.Lists.{filter_takes, filter_skips, count_more, count_same}
 use Rattle.history_merge.proofs.Cutting.{heard_first, not_heard, cuts, cuts_all}
 
@@ -54,17 +33,13 @@ module _ (editors : List ℕ) (passes : List ReaderView) (r : ℕ) where
   -- those of the readers from a on, none of them r
   none_of : (k n a c : ℕ) (ys : List (Step × Reply)) → r < a → here n (flat_map (opens_of passes k) (range_with_len a c) ++ ys) ≡ here n ys
   none_of k n a zero ys h = refl
-  none_of k n a (suc c) ys h =
-      let rest = flat_map (opens_of passes k) (range_with_len (a + 1) c) in
-      ap (here n) (append_assoc (opens_of passes k a) rest ys)
+  none_of k n a (suc c) ys h = let rest = flat_map (opens_of passes k) (range_with_len (a + 1) c) in ap (here n) (append_assoc (opens_of passes k a) rest ys)
       ∙ others a (λ e. omega arith) n (filter (has_heard k) (opens_by a passes)) (rest ++ ys)
       ∙ none_of k n (a + 1) c ys (omega arith)
 
   one_of : (k n a c : ℕ) (ys : List (Step × Reply)) → a ≤ r → r < a + c → here n (flat_map (opens_of passes k) (range_with_len a c) ++ ys) ≡ map (at n) (filter (has_heard k) mine) ++ here n ys
   one_of k n a zero ys h l = absurd (omega arith)
-  one_of k n a (suc c) ys h l =
-      let rest = flat_map (opens_of passes k) (range_with_len (a + 1) c) in
-      ap (here n) (append_assoc (opens_of passes k a) rest ys)
+  one_of k n a (suc c) ys h l = let rest = flat_map (opens_of passes k) (range_with_len (a + 1) c) in ap (here n) (append_assoc (opens_of passes k a) rest ys)
       ∙ dite (ℕ_discrete a r)
       (λ e. subst (λ (s : ℕ). here n (opens_of passes k s ++ (rest ++ ys)) ≡ map (at n) (filter (has_heard k) mine) ++ here n ys) (sym e)
       (own n (filter (has_heard k) mine) (rest ++ ys)
@@ -87,20 +62,15 @@ module _ (editors : List ℕ) (passes : List ReaderView) (r : ℕ) where
     all_merged k fates [] = refl
     all_merged k fates (entries.Commit editor edits outcome ∷ es) =
         all_merged k fates es ∙ ap (λ (n : ℕ). map told (cuts mine (suc k) n)) (sym (count_same is_draw (entries.Commit editor edits outcome) es refl))
-    all_merged k fates (entries.Draw asked generation first count ∷ es) =
-        let first_ones = filter (has_heard (suc k)) mine in
-        let rest = cuts mine (suc (suc k)) (count_by is_draw es) in
-        group (suc k) (merge_entries editors passes (suc k) (drop 1 fates) es)
+    all_merged k fates (entries.Draw asked generation first count ∷ es) = let first_ones = filter (has_heard (suc k)) mine in
+        let rest = cuts mine (suc (suc k)) (count_by is_draw es) in group (suc k) (merge_entries editors passes (suc k) (drop 1 fates) es)
         ∙ ap (λ (l : List (ℕ × (Step × Reply))). map told first_ones ++ l) (all_merged (suc k) (drop 1 fates) es)
         ∙ sym (map-append told first_ones rest)
         ∙ ap (λ (n : ℕ). map told (cuts mine (suc k) n)) (sym (count_more is_draw (entries.Draw asked generation first count) es refl))
 
     -- each of its opens stands with as many draws before it as its shot had heard
     pub opens_stand : (fates : List (List Fate)) (es : List Entry) → NeverFall 0 (count_by is_draw es) mine → here 0 (merge_of editors passes fates es) ≡ map told mine
-    opens_stand fates es never =
-        let d = count_by is_draw es in
-        let first_ones = filter (has_heard 0) mine in
-        group 0 (merge_entries editors passes 0 fates es)
+    opens_stand fates es never = let d = count_by is_draw es in let first_ones = filter (has_heard 0) mine in group 0 (merge_entries editors passes 0 fates es)
         ∙ ap (λ (l : List (ℕ × (Step × Reply))). map told first_ones ++ l) (all_merged 0 fates es)
         ∙ sym (map-append told first_ones (cuts mine 1 d))
         ∙ ap (map told) (cuts_all mine 0 d (suc d) never (omega arith))
@@ -116,8 +86,7 @@ module _ {X : Type 0} (p d : X → Bool) where
 
   -- and picked or not
   push_skip : (n : ℕ) (y : X) (ys : List X) (early : List (ℕ × X)) (k : ℕ) (x : X) → p y ≡ false → Found (if d y then suc n else n) ys early k x → Found n (y ∷ ys) early k x
-  push_skip n y ys early k x no_p f =
-      (y ∷ f.0, f.1, ap (λ (l : List X). y ∷ l) f.2, sym (counted n y f.0 (d y) refl) ∙ f.3, filter_skips p y f.0 no_p ∙ f.4)
+  push_skip n y ys early k x no_p f = (y ∷ f.0, f.1, ap (λ (l : List X). y ∷ l) f.2, sym (counted n y f.0 (d y) refl) ∙ f.3, filter_skips p y f.0 no_p ∙ f.4)
 
   push_take : (n : ℕ) (y : X) (ys : List X) (early : List (ℕ × X)) (k : ℕ) (x : X) (z : ℕ × X) → p y ≡ true → z.1 ≡ y → Found (if d y then suc n else n) ys early k x → Found n (y ∷ ys) (z ∷ early) k x
   push_take n y ys early k x z is_p same f =
@@ -127,11 +96,9 @@ module _ {X : Type 0} (p d : X → Bool) where
       → ((early : List (ℕ × X)) → with_draws_before p d (if d y then suc n else n) ys ≡ early ++ (k, x) ∷ late → Found (if d y then suc n else n) ys early k x)
       → (b : Bool) → p y ≡ b → (if b then (n, y) ∷ [] else []) ++ with_draws_before p d (if d y then suc n else n) ys ≡ early ++ (k, x) ∷ late → Found n (y ∷ ys) early k x
   split n y ys early late k x rest false no_p h = push_skip n y ys early k x no_p (rest early h)
-  split n y ys [] late k x rest true is_p h =
-      let same : (n, y) ≡ (k, x) = cc in
+  split n y ys [] late k x rest true is_p h = let same : (n, y) ≡ (k, x) = cc in
       ([], ys, ap (λ (z : X). z ∷ ys) (ap (λ (q : ℕ × X). q.1) same), (let e : n ≡ k = ap (λ (q : ℕ × X). q.0) same in omega (arith, e)), refl)
-  split n y ys (z ∷ early) late k x rest true is_p h =
-      let same : (n, y) ≡ z = cc in
+  split n y ys (z ∷ early) late k x rest true is_p h = let same : (n, y) ≡ z = cc in
       let tail : with_draws_before p d (if d y then suc n else n) ys ≡ early ++ (k, x) ∷ late = cc in
       push_take n y ys early k x z is_p (sym (ap (λ (q : ℕ × X). q.1) same)) (rest early tail)
 
@@ -151,12 +118,9 @@ module _ {X : Type 0} (p d : X → Bool) where
       cond_both (d x) (x ∷ filter d xs) (filter d xs) (λ l. l ≡ []) (λ is. let c = count_more d x xs is in absurd (omega (arith, c, h))) (λ is. let c = count_same d x xs is in none_drawn xs (omega (arith, c, h)))
 
   pub last_at : LastStands p d
-  last_at xs early late k x h all =
-      let f = stands_at p d xs early late k x h in
+  last_at xs early late k x h all = let f = stands_at p d xs early late k x h in
       let a : count_by d xs ≡ count_by d f.0 + count_by d (x ∷ f.1) = ap (count_by d) f.2 ∙ sum_by-append (λ (y : X). cond {A = ℕ} (d y) 1 0) f.0 (x ∷ f.1) in
-      let b = f.3 in
-      let rest = none_drawn (x ∷ f.1) (omega arith) in
-      (f.0, f.1, f.2, rest)
+      let b = f.3 in let rest = none_drawn (x ∷ f.1) (omega arith) in (f.0, f.1, f.2, rest)
 
 -- ---- each merge of a session owes what it should
 
@@ -183,8 +147,7 @@ steps_of editors n [] h k = tt
 steps_of editors n (e ∷ es) h k = (step_of editors n e h.0 k.0, steps_of editors n es h.1 k.1)
 
 in_range : (c : CatalogueState) (editors : List ℕ) (fates : List (List Fate)) (readers : List ReaderView) → IsReady c editors fates readers → All InRange (map (λ x. x.0) (merge_of editors readers fates c.entries))
-in_range c editors fates readers ready =
-    let Q : Step × Reply → Type 0 = λ x. InRange x.0 in
+in_range c editors fates readers ready = let Q : Step × Reply → Type 0 = λ x. InRange x.0 in
     let steps = steps_of editors ready.numbers c.entries (recursion_from_All IsEntered c.entries ready.history.entered) ready.parts.placed in
     All-map InRange (λ (x : Step × Reply). x.0) (merge_of editors readers fates c.entries)
     (All-from_recursion Q (merge_of editors readers fates c.entries) (each_merged Q readers (λ r low high o. (low, high)) editors fates c.entries steps))

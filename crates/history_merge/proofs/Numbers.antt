@@ -1,20 +1,11 @@
 -- The editors' numbers decide no outcome and no draw.
-use Rattle.std.proofs.Common.{◌≡◌, ℕ, ◌+◌, ◌-◌, ◌%◌, min, cond, List, [], ◌∷◌, length, map, drop, take, get_or, Result, Ok, Err, sym, ap, ◌∙◌, refl}
-use Rattle.std.specs.Prelude.{◌==◌, nat_lt, if◌then◌else◌}
-use Rattle.std.specs.List.{sum_by}
-use Rattle.std.proofs.lemmas.List.Sums.{sum_by-cons}
+use Rattle.history_merge.proofs.Words.{◌≡◌, ℕ, ◌+◌, ◌-◌, ◌%◌, min, cond, List, [], ◌∷◌, length, map, drop, take, get_or, Result, Ok, Err, sym, ap, ◌∙◌, refl, ◌==◌, nat_lt, if◌then◌else◌, sum_by, sum_by-cons, Edit, GenerationState, generation_of, lines_of, trees_after, with_tree, last_tree, drawn_since, put_bytes, put_bytes_of, journal_of, is_draw, draws_of, current_of, cursor_of, cycle_in, count_drawn, items_drawn, outcome_of, unless_edit, Refusal, Entry, state_of}
 use Rattle.oc_bytes.specs.Outcome.{cap_at_u64}
 use Rattle.path_tree.specs.Trees.{Tree}
 use Rattle.path_tree.specs.Edits.{apply_all}
-use Rattle.path_tree.specs.declared.tree.Edit.{Edit}
 use Rattle.cycle_planner.specs.Cycle.{cycle_of}
-use Rattle.generation.specs.Layouts.{GenerationState, generation_of, lines_of}
-use Rattle.generation_catalogue.specs.History.{trees_after, with_tree, last_tree, drawn_since, put_bytes, put_bytes_of, journal_of, is_draw, draws_of, current_of, cursor_of, cycle_in, count_drawn, items_drawn, outcome_of, unless_edit}
-use Rattle.generation_catalogue.specs.declared.entry.Refusal.{Refusal}
 use Rattle.generation_catalogue.specs.declared.entry.Refusal.TheVariants as refusals
-use Rattle.generation_catalogue.specs.declared.entry.Entry.{Entry}
 use Rattle.generation_catalogue.specs.declared.entry.Entry.TheVariants as entries
-use Rattle.history_merge.specs.Merges.{state_of}
 
 -- the entry with its editor's number for its place
 abbrev pub numbered : List ℕ → Entry → Entry
@@ -36,8 +27,7 @@ module _ (editors : List ℕ) where
 
   sum_same : (f : Entry → ℕ) → ((e : Entry) → f (numbered editors e) ≡ f e) → (es : List Entry) → sum_by f (map (numbered editors) es) ≡ sum_by f es
   sum_same f same [] = refl
-  sum_same f same (e ∷ es) =
-      sum_by-cons f (numbered editors e) (map (numbered editors) es) ∙ (λ i. same e i + sum_same f same es i) ∙ sym (sum_by-cons f e es)
+  sum_same f same (e ∷ es) = sum_by-cons f (numbered editors e) (map (numbered editors) es) ∙ (λ i. same e i + sum_same f same es i) ∙ sym (sum_by-cons f e es)
 
   put_same : (e : Entry) → put_bytes_of (numbered editors e) ≡ put_bytes_of e
   put_same (entries.Commit editor edits outcome) = refl
@@ -54,8 +44,7 @@ module _ (editors : List ℕ) where
   draws_same carousel weights es = sum_same (λ e. cond {A = ℕ} (is_draw e) 1 0) draw_same es
 
   abbrev outcome_with : ℕ → List Tree → ℕ → List Edit → Result ℕ Refusal
-  outcome_with carousel trees journal edits =
-      if (generation_of carousel trees).number == 16383 then Err (refusals.SeasonFull 16383)
+  outcome_with carousel trees journal edits = if (generation_of carousel trees).number == 16383 then Err (refusals.SeasonFull 16383)
       else (if nat_lt 536870912 (journal + put_bytes edits) then Err (refusals.JournalFull (cap_at_u64 (journal + put_bytes edits)))
       else unless_edit ((generation_of carousel trees).number + 1) (apply_all (last_tree trees) edits))
 

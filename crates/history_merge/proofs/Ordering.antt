@@ -1,17 +1,6 @@
 -- A merge without its opens is the entries; more entries after the others, and what each event of a merge is.
-use Rattle.std.proofs.Common.{◌≡◌, ℕ, suc, Bool, true, false, cond, List, [], ◌∷◌, ◌++◌, map, filter, drop, get_or, ap, ◌∙◌, refl, zero, ◌+◌, ◌≤◌, sym, arith, append_assoc}
-use Rattle.std.specs.List.{flat_map, range_with_len, count_by}
-use Rattle.std.proofs.lemmas.List.Elements.{filter-append}
-use Rattle.ts_packet.specs.declared.Fate.{Fate}
-use Rattle.generation_catalogue.specs.History.{is_draw}
-use Rattle.generation_catalogue.specs.declared.entry.Entry.{Entry}
+use Rattle.history_merge.proofs.Words.{◌≡◌, ℕ, suc, Bool, true, false, cond, List, [], ◌∷◌, ◌++◌, map, filter, drop, get_or, ap, ◌∙◌, refl, zero, ◌+◌, ◌≤◌, sym, arith, append_assoc, flat_map, range_with_len, count_by, filter-append, Fate, is_draw, Entry, Step, Reply, ReaderView, OpenEntry, event_of, opened_of, has_heard, opens_by, opens_of, opens_at, merge_entries, merge_of, drawn_with, Each, is_draw_step, is_commit_of, is_commit_at, MergesGrow}
 use Rattle.generation_catalogue.specs.declared.entry.Entry.TheVariants as entries
-use Rattle.carousel_world.specs.Events.{Step}
-use Rattle.carousel_world.specs.declared.event.Reply.{Reply}
-use Rattle.open_history.specs.Opens.{ReaderView}
-use Rattle.open_history.specs.declared.entry.OpenEntry.{OpenEntry}
-use Rattle.history_merge.specs.Merging.{event_of, opened_of, has_heard, opens_by, opens_of, opens_at, merge_entries, merge_of, drawn_with, Each}
-use Rattle.history_merge.specs.Merged.{is_draw_step, is_commit_of, is_commit_at, MergesGrow}
 use Rattle.history_merge.proofs.Lists.{filter_skips, count_more, count_same, each_append}
 
 -- a test that no open passes
@@ -22,8 +11,7 @@ module _ (picked : Step × Reply → Bool) (not_opens : (r : ℕ) (o : OpenEntry
 
   no_opens : (k : ℕ) (rs : List ℕ) → filter picked (flat_map (opens_of passes k) rs) ≡ []
   no_opens k [] = refl
-  no_opens k (r ∷ rs) =
-      filter-append picked (opens_of passes k r) (flat_map (opens_of passes k) rs)
+  no_opens k (r ∷ rs) = filter-append picked (opens_of passes k r) (flat_map (opens_of passes k) rs)
       ∙ (λ i. no_opened r (filter (has_heard k) (opens_by r passes)) i ++ no_opens k rs i)
 
   past_opens : (k : ℕ) (xs : List (Step × Reply)) → filter picked (opens_at passes k ++ xs) ≡ filter picked xs
@@ -44,8 +32,7 @@ module _ (editors : List ℕ) (passes : List ReaderView) where
 
     commits_in : (k : ℕ) (fates : List (List Fate)) (es : List Entry) → filter its (merge_entries editors passes k fates es) ≡ map alone (filter (is_commit_at place) es)
     commits_in k fates [] = refl
-    commits_in k fates (entries.Commit editor edits outcome ∷ es) =
-        let e = entries.Commit editor edits outcome in
+    commits_in k fates (entries.Commit editor edits outcome ∷ es) = let e = entries.Commit editor edits outcome in
         (λ i. cond (same e [] i) (alone e ∷ commits_in k fates es i) (commits_in k fates es i)) ∙ mapped_if alone e (filter (is_commit_at place) es) (is_commit_at place e)
     commits_in k fates (entries.Draw asked generation first count ∷ es) =
         past_opens its (λ r o. refl) passes (suc k) (merge_entries editors passes (suc k) (drop 1 fates) es) ∙ commits_in (suc k) (drop 1 fates) es
@@ -83,16 +70,12 @@ module _ (editors : List ℕ) (passes : List ReaderView) where
     where
       same : k ≡ k + 0
       same = omega arith
-  onwards_from k fates (entries.Commit editor edits outcome ∷ es) more =
-      let e = entries.Commit editor edits outcome in
+  onwards_from k fates (entries.Commit editor edits outcome ∷ es) more = let e = entries.Commit editor edits outcome in
       let n : count_by is_draw es ≡ count_by is_draw (e ∷ es) = sym (count_same is_draw e es refl) in
       ap (λ (l : List (Step × Reply)). event_of editors e [] ∷ l)
       (onwards_from k fates es more ∙ (λ i. later k fates es ++ later (k + n i) (drop (n i) fates) more))
-  onwards_from k fates (entries.Draw asked generation first count ∷ es) more =
-      let e = entries.Draw asked generation first count in
-      let n = count_by is_draw es in
-      let rest = later (suc k) (drop 1 fates) es in
-      let one = count_more is_draw e es refl in
+  onwards_from k fates (entries.Draw asked generation first count ∷ es) more = let e = entries.Draw asked generation first count in
+      let n = count_by is_draw es in let rest = later (suc k) (drop 1 fates) es in let one = count_more is_draw e es refl in
       let c : suc k + n ≡ k + count_by is_draw (e ∷ es) = omega arith in
       let f : drop n (drop 1 fates) ≡ drop (count_by is_draw (e ∷ es)) fates = drop_more n fates ∙ ap (λ (j : ℕ). drop j fates) (sym one) in
       ap (λ (l : List (Step × Reply)). event_of editors e (get_or fates 0 []) ∷ l)
@@ -100,8 +83,7 @@ module _ (editors : List ℕ) (passes : List ReaderView) where
       ∙ sym (append_assoc (opens_at passes (suc k)) rest (later (k + count_by is_draw (e ∷ es)) (drop (count_by is_draw (e ∷ es)) fates) more)))
 
 pub onwards : MergesGrow
-onwards editors passes fates es more =
-    let n = count_by is_draw es in
+onwards editors passes fates es more = let n = count_by is_draw es in
     ap (λ (l : List (Step × Reply)). opens_at passes 0 ++ l) (onwards_from editors passes 0 fates es more)
     ∙ sym (append_assoc (opens_at passes 0) (merge_entries editors passes 0 fates es) (merge_entries editors passes (0 + n) (drop n fates) more))
     ∙ (λ i. merge_of editors passes fates es ++ merge_entries editors passes (zero_more i) (drop n fates) more)
@@ -117,8 +99,7 @@ module _ (Q : Step × Reply → Type 0) (passes : List ReaderView) (opens : (r :
 
   of_readers : (k a n : ℕ) → 1 ≤ a → a + n ≤ 65 → Each Q (flat_map (opens_of passes k) (range_with_len a n))
   of_readers k a zero low high = tt
-  of_readers k a (suc n) low high =
-      each_append Q (opens_of passes k a) (flat_map (opens_of passes k) (range_with_len (a + 1) n))
+  of_readers k a (suc n) low high = each_append Q (opens_of passes k a) (flat_map (opens_of passes k) (range_with_len (a + 1) n))
       (of_reader a low (omega arith) (filter (has_heard k) (opens_by a passes))) (of_readers k (a + 1) n (omega arith) (omega arith))
 
   pub each_opened : (k : ℕ) → Each Q (opens_at passes k)

@@ -1,12 +1,5 @@
 -- Readers that share no number: each has its own opens.
-use Rattle.std.proofs.Common.{◌≡◌, ◌≢◌, ℕ, zero, suc, List, [], ◌∷◌, ◌++◌, Some, sym, ◌∙◌, refl, subst, append-nil, eq-eqb, ne_eqb}
-use Rattle.std.specs.Prelude.{if◌then◌else◌, slice_get}
-use mathlib.Core.Logic.{dite}
-use native.Mathlib.Decide.{ℕ_discrete}
-use Rattle.open_history.specs.Opens.{ReaderView}
-use Rattle.history_merge.specs.Merging.{Each, opens_by}
-use Rattle.history_merge.specs.Laws.{NeverFall}
-use Rattle.history_merge.specs.Merged.{IsInOrder, AreApart}
+use Rattle.history_merge.proofs.Words.{◌≡◌, ◌≢◌, ℕ, zero, suc, List, [], ◌∷◌, ◌++◌, Some, sym, ◌∙◌, refl, subst, append-nil, eq-eqb, ne_eqb, if◌then◌else◌, slice_get, dite, ℕ_discrete, ReaderView, Each, opens_by, NeverFall, IsInOrder, AreApart}
 
 each_at : {A : Type 0} (Q : A → Type 0) (xs : List A) (k : ℕ) (x : A) → Each Q xs → slice_get xs k ≡ Some x → Q x
 each_at Q [] k x h e = absurd (cc)
@@ -18,8 +11,7 @@ none_by r [] h = refl
 none_by r (q ∷ qs) h = λ i. (if ne_eqb q.reader r h.0 i then q.opens else []) ++ none_by r qs h.1 i
 
 own_first : (p : ReaderView) (ps : List ReaderView) (r : ℕ) → p.reader ≡ r → Each (λ (q : ReaderView). q.reader ≢ p.reader) ps → opens_by r (p ∷ ps) ≡ p.opens
-own_first p ps r e apart =
-    let none : opens_by r ps ≡ [] = none_by r ps (subst (λ (s : ℕ). Each (λ (q : ReaderView). q.reader ≢ s) ps) e apart) in
+own_first p ps r e apart = let none : opens_by r ps ≡ [] = none_by r ps (subst (λ (s : ℕ). Each (λ (q : ReaderView). q.reader ≢ s) ps) e apart) in
     (λ i. (if eq-eqb p.reader r e i then p.opens else []) ++ none i) ∙ append-nil p.opens
 
 own_later : (p : ReaderView) (ps : List ReaderView) (r : ℕ) → p.reader ≢ r → opens_by r (p ∷ ps) ≡ opens_by r ps
@@ -33,6 +25,5 @@ own_of (q ∷ qs) (suc k) p apart h =
 
 pub rising_by : (r last : ℕ) (ps : List ReaderView) → AreApart ps → Each (IsInOrder last) ps → NeverFall 0 last (opens_by r ps)
 rising_by r last [] apart h = tt
-rising_by r last (p ∷ ps) apart h = dite (ℕ_discrete p.reader r)
-    (λ e. subst (NeverFall 0 last) (sym (own_first p ps r e apart.0)) h.0.rising)
+rising_by r last (p ∷ ps) apart h = dite (ℕ_discrete p.reader r) (λ e. subst (NeverFall 0 last) (sym (own_first p ps r e apart.0)) h.0.rising)
     (λ ne. subst (NeverFall 0 last) (sym (own_later p ps r ne)) (rising_by r last ps apart.1 h.1))

@@ -1,28 +1,11 @@
 -- A session's merge is a run of the world.
-use Rattle.std.proofs.Common.{◌≡◌, ℕ, suc, ◌+◌, ◌<◌, ◌≤◌, ◌==◌, Bool, true, false, cond, List, [], ◌∷◌, ◌++◌, length, map, filter, drop, take, get_or, Result, sym, ap, ◌∙◌, refl, subst, arith, append_assoc, append-nil, length-append, eqb-true}
-use Rattle.std.specs.Prelude.{if◌then◌else◌, slice_get, slice_index_or, nat_le}
-use Rattle.std.specs.List.{flat_map, range_with_len, sum_by}
-use Rattle.std.proofs.lemmas.List.Sums.{sum_by-append, sum_by-cons}
+use Rattle.history_merge.proofs.Words.{◌≡◌, ℕ, suc, ◌+◌, ◌<◌, ◌≤◌, ◌==◌, Bool, true, false, cond, List, [], ◌∷◌, ◌++◌, length, map, filter, drop, take, get_or, Result, sym, ap, ◌∙◌, refl, subst, arith, append_assoc, append-nil, length-append, eqb-true, if◌then◌else◌, slice_get, slice_index_or, nat_le, flat_map, range_with_len, sum_by, sum_by-append, sum_by-cons, map-append, lt-leb, Edit, Fate, CatalogueState, IsHistory, IsEntered, entry_after, is_draw, is_entered, draws_of, with_draw, current_of, cursor_of, count_drawn, items_drawn, outcome_of, with_entry, Refusal, Entry, ReaderView, OpenEntry, Step, Commit, Draw, Open, Drawing, WorldState, arrivals, candidates_in, commit_reply, initial_world, after_all, replies_to, reply_to, happens, Reply, Each, opened_of, has_heard, opens_by, opens_of, opens_at, merge_entries, merge_of, state_of, drawings_after, drawings_of, candidates_after, IsAnswered, AreAnswered, IsRunOfWorld}
 use Rattle.std.proofs.Math.Seq.{take-append_seam}
-use mathlib.Core.List.{map-append}
-use Rattle.std.proofs.lemmas.Bool.{lt-leb}
-use Rattle.path_tree.specs.declared.tree.Edit.{Edit}
-use Rattle.ts_packet.specs.declared.Fate.{Fate}
-use Rattle.generation_catalogue.specs.History.{CatalogueState, IsHistory, IsEntered, entry_after, is_draw, is_entered, draws_of, with_draw, current_of, cursor_of, count_drawn, items_drawn, outcome_of, with_entry}
-use Rattle.generation_catalogue.specs.declared.entry.Refusal.{Refusal}
-use Rattle.generation_catalogue.specs.declared.entry.Entry.{Entry}
 use Rattle.generation_catalogue.specs.declared.entry.Entry.TheVariants as entries
-use Rattle.open_history.specs.Opens.{ReaderView}
-use Rattle.open_history.specs.declared.entry.OpenEntry.{OpenEntry}
-use Rattle.carousel_world.specs.Events.{Step, Commit, Draw, Open}
 use Rattle.carousel_world.specs.Receptions.{label_after}
 use Rattle.tuner_core.specs.LookBack.{answer_after}
-use Rattle.carousel_world.specs.World.{Drawing, WorldState, arrivals, candidates_in, commit_reply, initial_world, after_all, replies_to, reply_to, happens}
 use Rattle.section_stream.specs.Cuts.{candidates}
-use Rattle.carousel_world.specs.declared.event.Reply.{Reply}
 use Rattle.carousel_world.specs.declared.event.Reply.TheVariants as replies
-use Rattle.history_merge.specs.Merging.{Each, opened_of, has_heard, opens_by, opens_of, opens_at, merge_entries, merge_of}
-use Rattle.history_merge.specs.Merges.{state_of, drawings_after, drawings_of, candidates_after, IsAnswered, AreAnswered, IsRunOfWorld}
 use Rattle.history_merge.proofs.Lists.{each_append, get_next}
 use Rattle.history_merge.proofs.Numbers.{numbered, outcome_same, draws_same, current_same, cursor_same, count_drawn_same, items_same}
 
@@ -41,13 +24,11 @@ reply_in (entries.Draw asked generation first count) = replies.Drawn generation 
 -- what the history says of its next entry
 module _ (c : CatalogueState) (history : IsHistory c) where
   next_is : (before : List Entry) (e : Entry) (es : List Entry) → c.entries ≡ before ++ e ∷ es → e ≡ entry_after (state_of c.carousel c.weights before) e
-  next_is before e es all =
-      history.each (length before) e (ap (λ (l : List Entry). slice_get l (length before)) all ∙ get_next before es e)
+  next_is before e es all = history.each (length before) e (ap (λ (l : List Entry). slice_get l (length before)) all ∙ get_next before es e)
       ∙ ap (λ (l : List Entry). entry_after (state_of c.carousel c.weights l) e) (ap (take (length before)) all ∙ take-append_seam before (e ∷ es))
 
   next_entered : (before : List Entry) (e : Entry) (es : List Entry) → c.entries ≡ before ++ e ∷ es → IsEntered e
-  next_entered before e es all =
-      subst IsEntered (ap (λ (l : List Entry). slice_index_or l (length before) e) all ∙ index_next before es e)
+  next_entered before e es all = subst IsEntered (ap (λ (l : List Entry). slice_index_or l (length before) e) all ∙ index_next before es e)
       (history.entered (length before) e (let n = ap length all ∙ length-append before (e ∷ es) in omega arith))
 
 module _ (c : CatalogueState) (history : IsHistory c) (few : draws_of c ≤ 16777216) (editors : List ℕ) (all_fates : List (List Fate)) where
@@ -82,8 +63,7 @@ module _ (c : CatalogueState) (history : IsHistory c) (few : draws_of c ≤ 1677
   after_commit : (before : List Entry) (ds : List Drawing) (editor : ℕ) (edits : List Edit) (outcome : Result ℕ Refusal) → outcome ≡ outcome_of (stored before) edits → is_entered outcome ≡ true
       → happens (world_at before ds) (Commit (get_or editors editor 0) edits) ≡ world_at (before ++ entries.Commit editor edits outcome ∷ []) ds
   after_commit before ds editor edits outcome same entered =
-      let now : is_entered (outcome_of (stored before) edits) ≡ true = ap is_entered (sym same) ∙ entered in
-      ap (λ (b : Bool). record {
+      let now : is_entered (outcome_of (stored before) edits) ≡ true = ap is_entered (sym same) ∙ entered in ap (λ (b : Bool). record {
         catalogue = if b then with_entry (stored before) (entries.Commit (get_or editors editor 0) edits (outcome_of (stored before) edits)) else stored before;
         drawings = ds;
       }) now
@@ -92,9 +72,7 @@ module _ (c : CatalogueState) (history : IsHistory c) (few : draws_of c ≤ 1677
 
   on_commit : (w : WorldState) (k : ℕ) (fates : List (List Fate)) (editor : ℕ) (edits : List Edit) (outcome : Result ℕ Refusal) (es : List Entry) → Stands w k fates (entries.Commit editor edits outcome ∷ es)
       → (commit_reply outcome ≡ reply_to w (Commit (get_or editors editor 0) edits)) × Stands (happens w (Commit (get_or editors editor 0) edits)) k fates es
-  on_commit w k fates editor edits outcome es s =
-      let e = entries.Commit editor edits outcome in
-      let step = Commit (get_or editors editor 0) edits in
+  on_commit w k fates editor edits outcome es s = let e = entries.Commit editor edits outcome in let step = Commit (get_or editors editor 0) edits in
       let same = same_outcome s.before editor edits outcome es s.entries in (
         ap commit_reply same ∙ ap (λ v. reply_to v step) (sym s.is),
         record {
@@ -124,28 +102,24 @@ module _ (c : CatalogueState) (history : IsHistory c) (few : draws_of c ≤ 1677
         ∙ sym (next_is c history before this es all_entries)
 
     fewer : draws_of (stored before) < 16777216
-    fewer =
-        let f : Entry → ℕ = λ e. cond {A = ℕ} (is_draw e) 1 0 in
+    fewer = let f : Entry → ℕ = λ e. cond {A = ℕ} (is_draw e) 1 0 in
         let a : draws_of (stored before) ≡ sum_by f before = draws_same editors c.carousel c.weights before in
         let b : draws_of c ≡ sum_by f before + sum_by f (this ∷ es) = ap (sum_by f) all_entries ∙ sum_by-append f before (this ∷ es) in
-        let d : sum_by f (this ∷ es) ≡ 1 + sum_by f es = sum_by-cons f this es in
-        omega arith
+        let d : sum_by f (this ∷ es) ≡ 1 + sum_by f es = sum_by-cons f this es in omega arith
 
     not_full : nat_le 16777216 (draws_of (stored before)) ≡ false
     not_full = lt-leb 16777216 (draws_of (stored before)) fewer
 
     reply_of_draw : (ds : List Drawing) (fs : List Fate) → replies.Drawn generation first count ≡ reply_to (world_at before ds) (Draw asked fs)
-    reply_of_draw ds fs =
-        ap reply_in (sym same_entry)
+    reply_of_draw ds fs = ap reply_in (sym same_entry)
         ∙ ap (λ (b : Bool). if b then replies.DrawsFull 16777216 else replies.Drawn (current_of (stored before)).number (cursor_of (stored before)) (count_drawn (stored before) asked)) (sym not_full)
 
     after_draw : (ds : List Drawing) (fs : List Fate) → happens (world_at before ds) (Draw asked fs)
         ≡ world_at (before ++ this ∷ []) (ds ++ record { generation = current_of plain; items = items_drawn plain asked; fates = fs } ∷ [])
-    after_draw ds fs =
-        ap (λ (b : Bool). if b then world_at before ds else record {
-          catalogue = with_draw (stored before) asked;
-          drawings = ds ++ record { generation = current_of (stored before); items = items_drawn (stored before) asked; fates = fs } ∷ [];
-        }) not_full
+    after_draw ds fs = ap (λ (b : Bool). if b then world_at before ds else record {
+      catalogue = with_draw (stored before) asked;
+      drawings = ds ++ record { generation = current_of (stored before); items = items_drawn (stored before) asked; fates = fs } ∷ [];
+    }) not_full
         ∙ (λ i. record {
           catalogue = with_entry (stored before) (same_entry i);
           drawings = ds ++ record { generation = current_same editors c.carousel c.weights before i; items = items_same editors c.carousel c.weights before asked i; fates = fs } ∷ [];
@@ -157,9 +131,7 @@ module _ (c : CatalogueState) (history : IsHistory c) (few : draws_of c ≤ 1677
 
   on_draw : (w : WorldState) (k : ℕ) (fates : List (List Fate)) (asked generation first count : ℕ) (es : List Entry) → Stands w k fates (entries.Draw asked generation first count ∷ es)
       → (replies.Drawn generation first count ≡ reply_to w (Draw asked (get_or fates 0 []))) × Stands (happens w (Draw asked (get_or fates 0 []))) (suc k) (drop 1 fates) es
-  on_draw w k fates asked generation first count es s =
-      let e = entries.Draw asked generation first count in
-      let fs = get_or fates 0 [] in
+  on_draw w k fates asked generation first count es s = let e = entries.Draw asked generation first count in let fs = get_or fates 0 [] in
       let plain = state_of c.carousel c.weights s.before in
       let now : Drawing = record { generation = current_of plain; items = items_drawn plain asked; fates = fs } in (
         reply_of_draw s.before asked generation first count es s.entries s.drawn fs ∙ ap (λ v. reply_to v (Draw asked fs)) (sym s.is),
@@ -187,8 +159,7 @@ module _ (c : CatalogueState) (history : IsHistory c) (few : draws_of c ≤ 1677
       let cut : take o.draws all ≡ s.drawn = (λ i. take (e i) (s.rest i)) ∙ ap (λ n. take n (s.drawn ++ drawings_after c.carousel c.weights s.before fates es)) (sym s.many) ∙ take-append_seam s.drawn (drawings_after c.carousel c.weights s.before fates es) in
       let heard : candidates_after all o.draws ≡ candidates_in w = ap (λ ds. candidates 256 (map (λ a. a.1) (arrivals ds))) cut ∙ ap candidates_in (sym s.is) in
       let label : o.label ≡ label_after (candidates_in w) = h.0 ∙ ap label_after heard in
-      let answer : o.answer ≡ answer_after (candidates_in w) o.path = h.1 ∙ ap (λ cs. answer_after cs o.path) heard in
-      λ i. replies.Opened (label i) (answer i)
+      let answer : o.answer ≡ answer_after (candidates_in w) o.path = h.1 ∙ ap (λ cs. answer_after cs o.path) heard in λ i. replies.Opened (label i) (answer i)
 
   -- each reply is that of the world before it, and all entries are in the world after the last
   abbrev Runs : WorldState → List (Step × Reply) → Type 0
@@ -218,8 +189,7 @@ module _ (c : CatalogueState) (history : IsHistory c) (few : draws_of c ≤ 1677
 
     of_readers : (w : WorldState) (k : ℕ) (fates : List (List Fate)) (es : List Entry) → Stands w k fates es → (rs : List ℕ) (ys : List (Step × Reply)) → Runs w ys → Runs w (flat_map (opens_of passes k) rs ++ ys)
     of_readers w k fates es s [] ys run = run
-    of_readers w k fates es s (r ∷ rs) ys run =
-        subst (Runs w) (sym (append_assoc (opens_of passes k r) (flat_map (opens_of passes k) rs) ys))
+    of_readers w k fates es s (r ∷ rs) ys run = subst (Runs w) (sym (append_assoc (opens_of passes k r) (flat_map (opens_of passes k) rs) ys))
         (of_one w k fates es s r (opens_by r passes) (flat_map (opens_of passes k) rs ++ ys) (by_reader r passes answered) (of_readers w k fates es s rs ys run))
 
     after_opens : (w : WorldState) (k : ℕ) (fates : List (List Fate)) (es : List Entry) → Stands w k fates es → (ys : List (Step × Reply)) → Runs w ys → Runs w (opens_at passes k ++ ys)
@@ -227,11 +197,9 @@ module _ (c : CatalogueState) (history : IsHistory c) (few : draws_of c ≤ 1677
 
     of_entries : (w : WorldState) (k : ℕ) (fates : List (List Fate)) (es : List Entry) → Stands w k fates es → Runs w (merge_entries editors passes k fates es)
     of_entries w k fates [] s = (k, fates, s)
-    of_entries w k fates (entries.Commit editor edits outcome ∷ es) s =
-        let q = on_commit w k fates editor edits outcome es s in
+    of_entries w k fates (entries.Commit editor edits outcome ∷ es) s = let q = on_commit w k fates editor edits outcome es s in
         (q.0, of_entries (happens w (Commit (get_or editors editor 0) edits)) k fates es q.1)
-    of_entries w k fates (entries.Draw asked generation first count ∷ es) s =
-        let q = on_draw w k fates asked generation first count es s in
+    of_entries w k fates (entries.Draw asked generation first count ∷ es) s = let q = on_draw w k fates asked generation first count es s in
         let v = happens w (Draw asked (get_or fates 0 [])) in
         (q.0, after_opens v (suc k) (drop 1 fates) es q.1 (merge_entries editors passes (suc k) (drop 1 fates) es) (of_entries v (suc k) (drop 1 fates) es q.1))
 
@@ -248,11 +216,9 @@ module _ (c : CatalogueState) (history : IsHistory c) (few : draws_of c ≤ 1677
     run_of = as_replies (initial_world c.carousel c.weights) merge runs
 
     pub drawings_at_end : (after_all (initial_world c.carousel c.weights) (map (λ x. x.0) merge)).drawings ≡ all
-    drawings_at_end =
-        let s = (at_end (initial_world c.carousel c.weights) merge runs).2 in
+    drawings_at_end = let s = (at_end (initial_world c.carousel c.weights) merge runs).2 in
         ap (λ (w : WorldState). w.drawings) s.is ∙ sym (append-nil s.drawn) ∙ sym s.rest
 
     pub catalogue_at_end : (after_all (initial_world c.carousel c.weights) (map (λ x. x.0) merge)).catalogue ≡ state_of c.carousel c.weights (map (numbered editors) c.entries)
-    catalogue_at_end =
-        let s = (at_end (initial_world c.carousel c.weights) merge runs).2 in
+    catalogue_at_end = let s = (at_end (initial_world c.carousel c.weights) merge runs).2 in
         ap (λ (w : WorldState). w.catalogue) s.is ∙ ap (λ (l : List Entry). state_of c.carousel c.weights (map (numbered editors) l)) (sym (append-nil s.before) ∙ sym s.entries)

@@ -1,20 +1,7 @@
 -- One entry more of a merge.
-use Rattle.std.proofs.Common.{◌≡◌, ℕ, zero, suc, ◌+◌, ◌<◌, ◌≤◌, true, List, [], ◌∷◌, ◌++◌, length, drop, get_or, Result, sym, ap, ◌∙◌, refl, subst, arith, append_assoc, append-nil}
-use Rattle.std.specs.List.{flat_map, range_with_len, count_by}
-use Rattle.std.proofs.lemmas.List.{get_or-drop, drop_all}
-use Rattle.path_tree.specs.declared.tree.Edit.{Edit}
-use Rattle.ts_packet.specs.declared.Fate.{Fate}
-use Rattle.generation_catalogue.specs.History.{is_draw}
-use Rattle.generation_catalogue.specs.declared.entry.Refusal.{Refusal}
-use Rattle.generation_catalogue.specs.declared.entry.Entry.{Entry}
+use Rattle.history_merge.proofs.Words.{◌≡◌, ℕ, zero, suc, ◌+◌, ◌<◌, ◌≤◌, true, List, [], ◌∷◌, ◌++◌, length, drop, get_or, Result, sym, ap, ◌∙◌, refl, subst, arith, append_assoc, append-nil, flat_map, range_with_len, count_by, get_or-drop, drop_all, Edit, Fate, is_draw, Refusal, Entry, ReaderView, Step, Draw, Reply, Each, event_of, opens_at, merge_entries, merge_of, IsPlaced, AreParts, WaitingFields, waited_by, opened_at, AllClimb, AreLeft}
 use Rattle.generation_catalogue.specs.declared.entry.Entry.TheVariants as entries
-use Rattle.open_history.specs.Opens.{ReaderView}
-use Rattle.carousel_world.specs.Events.{Step, Draw}
-use Rattle.carousel_world.specs.declared.event.Reply.{Reply}
 use Rattle.carousel_world.specs.declared.event.Reply.TheVariants as replies
-use Rattle.history_merge.specs.Merging.{Each, event_of, opens_at, merge_entries, merge_of}
-use Rattle.history_merge.specs.Merged.{IsPlaced, AreParts}
-use Rattle.history_merge.specs.Inner.Waiting.{WaitingFields, waited_by, opened_at, AllClimb, AreLeft}
 use Rattle.history_merge.proofs.Lists.{count_more, count_same}
 use Rattle.history_merge.proofs.Turns.{left_at, all_by, all_climb}
 
@@ -64,14 +51,11 @@ module _ (es : List Entry) (fates : List (List Fate)) (editors : List ℕ) (read
   pub with_commit : (i k : ℕ) (waiting : List WaitingFields) (told new : List (Step × Reply)) (editor : ℕ) (edits : List Edit) (outcome : Result ℕ Refusal) (x : Step × Reply) → i < length es
       → entries.Commit editor edits outcome ≡ get_or es i (entries.Commit editor edits outcome) → x ≡ event_of editors (entries.Commit editor edits outcome) [] → new ≡ told ++ x ∷ []
       → IsMerging i k waiting told → IsMerging (i + 1) k waiting new
-  with_commit i k waiting told new editor edits outcome x less is same n h =
-      let e = entries.Commit editor edits outcome in
+  with_commit i k waiting told new editor edits outcome x less is same n h = let e = entries.Commit editor edits outcome in
       let next : drop i es ≡ e ∷ drop (i + 1) es = left_at es i e less is in
       let c : count_by is_draw (drop i es) ≡ count_by is_draw (drop (i + 1) es) = ap (count_by is_draw) next ∙ count_same is_draw e (drop (i + 1) es) refl in
-      let all = h.drawn in
-      let low = h.few in
-      let here : Each (IsPlaced (length editors)) (e ∷ drop (i + 1) es) = subst (Each (IsPlaced (length editors))) next h.placed in
-      record {
+      let all = h.drawn in let low = h.few in
+      let here : Each (IsPlaced (length editors)) (e ∷ drop (i + 1) es) = subst (Each (IsPlaced (length editors))) next h.placed in record {
         so_far = ap (λ l. l ++ rest k (i + 1)) n ∙ append_assoc told (x ∷ []) (rest k (i + 1)) ∙ ap (λ y. told ++ y ∷ rest k (i + 1)) same
             ∙ ap (λ l. told ++ merge_entries editors readers k (drop k fates) l) (sym next) ∙ h.so_far;
         drawn = omega arith;
@@ -85,21 +69,16 @@ module _ (es : List Entry) (fates : List (List Fate)) (editors : List ℕ) (read
       → entries.Draw asked generation first count ≡ get_or es i (entries.Draw asked generation first count) → fs ≡ get_or fates k []
       → mid ≡ told ++ (Draw asked fs, replies.Drawn generation first count) ∷ [] → new ≡ mid ++ flat_map (opened_at (k + 1)) waiting → AreLeft (k + 1) waiting after
       → IsMerging i k waiting told → IsMerging (i + 1) (k + 1) after new
-  with_draw i k waiting after told mid new asked generation first count fs less is under m n left h =
-      let e = entries.Draw asked generation first count in
+  with_draw i k waiting after told mid new asked generation first count fs less is under m n left h = let e = entries.Draw asked generation first count in
       let next : drop i es ≡ e ∷ drop (i + 1) es = left_at es i e less is in
       let c : count_by is_draw (drop i es) ≡ suc (count_by is_draw (drop (i + 1) es)) = ap (count_by is_draw) next ∙ count_more is_draw e (drop (i + 1) es) refl in
-      let all = h.drawn in
-      let low = h.few in
-      let more : k + 1 ≡ suc k = omega arith in
-      let flat : k ≡ k + 0 = omega arith in
+      let all = h.drawn in let low = h.few in let more : k + 1 ≡ suc k = omega arith in let flat : k ≡ k + 0 = omega arith in
       let cut : drop (k + 1) fates ≡ drop 1 (drop k fates) = ap (λ (n : ℕ). drop n fates) more ∙ drops k fates in
       let own : fs ≡ get_or (drop k fates) 0 [] = under ∙ ap (λ (n : ℕ). get_or fates n []) flat ∙ sym (get_or-drop k fates 0 []) in
       let ops : List (Step × Reply) = opens_at readers (k + 1) in
       let drawn : List (Step × Reply) = (Draw asked fs, replies.Drawn generation first count) ∷ [] in
       let opened : flat_map (opened_at (k + 1)) waiting ≡ ops = h.later (k + 1) (omega arith) in
-      let here : Each (IsPlaced (length editors)) (e ∷ drop (i + 1) es) = subst (Each (IsPlaced (length editors))) next h.placed in
-      record {
+      let here : Each (IsPlaced (length editors)) (e ∷ drop (i + 1) es) = subst (Each (IsPlaced (length editors))) next h.placed in record {
         so_far = ap (λ l. l ++ rest (k + 1) (i + 1)) (n ∙ (λ j. m j ++ opened j))
             ∙ append_assoc (told ++ drawn) ops (rest (k + 1) (i + 1)) ∙ append_assoc told drawn (ops ++ rest (k + 1) (i + 1))
             ∙ (λ j. told ++ (Draw asked (own j), replies.Drawn generation first count) ∷ (opens_at readers (more j) ++ merge_entries editors readers (more j) (cut j) (drop (i + 1) es)))

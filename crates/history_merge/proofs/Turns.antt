@@ -1,31 +1,12 @@
 -- The first of a reader's opens are taken off, and so of each reader.
-use Rattle.std.proofs.Common.{◌≡◌, ◌≢◌, ℕ, suc, ◌+◌, ◌-◌, ◌<◌, ◌≤◌, Bool, List, [], ◌∷◌, ◌++◌, length, map, filter, take, drop, get_or, set, sym, ap, ◌∙◌, refl, subst, arith, append_assoc, eq-eqb, ne_eqb, drop-cons}
-use Rattle.std.specs.Prelude.{◌==◌, if◌then◌else◌}
-use Rattle.std.specs.List.{flat_map, range_with_len}
-use Rattle.std.proofs.lemmas.List.{drop_all, length-map, get_or-map, take-append-drop, take-set, drop-set, drop-set-lt, take_more_set, map-set, length-take-le}
-use Rattle.std.proofs.lemmas.List.Elements.{filter-append}
+use Rattle.history_merge.proofs.Words.{◌≡◌, ◌≢◌, ℕ, suc, ◌+◌, ◌-◌, ◌<◌, ◌≤◌, Bool, List, [], ◌∷◌, ◌++◌, length, map, filter, take, drop, get_or, set, sym, ap, ◌∙◌, refl, subst, arith, append_assoc, eq-eqb, ne_eqb, drop-cons, ◌==◌, if◌then◌else◌, flat_map, range_with_len, drop_all, length-map, get_or-map, take-append-drop, take-set, drop-set, drop-set-lt, take_more_set, map-set, length-take-le, filter-append, cond_both, map-append, dite, ℕ_discrete, ReaderView, OpenEntry, Step, Reply, Waiting, Each, has_heard, opened_of, opens_by, opens_of, NeverFall, IsInOrder, WaitingFields, view_waiting, all_wait, waited_by, opened_at, count_first_opens, Climb, IsLeft, AllClimb}
 use Rattle.std.proofs.lemmas.Grind.{flat_map-append}
-use Rattle.std.proofs.lemmas.Bool.{cond_both}
-use mathlib.Core.List.{map-append}
-use mathlib.Core.Logic.{dite}
-use native.Mathlib.Decide.{ℕ_discrete}
-use Rattle.open_history.specs.Opens.{ReaderView}
-use Rattle.open_history.specs.declared.entry.OpenEntry.{OpenEntry}
-use Rattle.carousel_world.specs.Events.{Step}
-use Rattle.carousel_world.specs.declared.event.Reply.{Reply}
-use Rattle.history_merge.specs.declared.waiting.Waiting.{Waiting}
-use Rattle.history_merge.specs.Merging.{Each, has_heard, opened_of, opens_by, opens_of}
-use Rattle.history_merge.specs.Laws.{NeverFall}
-use Rattle.history_merge.specs.Merged.{IsInOrder}
-use Rattle.history_merge.specs.Inner.Waiting.{WaitingFields, view_waiting, all_wait, waited_by, opened_at, count_first_opens, Climb, IsLeft, AllClimb}
 use Rattle.history_merge.proofs.Lists.{filter_takes, filter_skips, each_append}
 use Rattle.history_merge.proofs.Cutting.{heard_first, not_heard}
 
 -- what is left from a place on is what stands there, and what is left after it
 pub left_at : {A : Type 0} (xs : List A) (i : ℕ) (x : A) → i < length xs → x ≡ get_or xs i x → drop i xs ≡ x ∷ drop (i + 1) xs
-left_at xs i x less is =
-    let one : suc i ≡ i + 1 = omega arith in
-    drop-cons xs i x less ∙ (λ j. sym is j ∷ drop (one j) xs)
+left_at xs i x less is = let one : suc i ≡ i + 1 = omega arith in drop-cons xs i x less ∙ (λ j. sym is j ∷ drop (one j) xs)
 
 -- a part up to a place is as long as that
 pub as_long : {A : Type 0} (n : ℕ) (xs : List A) → n ≤ length xs → n ≡ length (take n xs)
@@ -53,16 +34,14 @@ module _ (k : ℕ) where
 
   none_in : (b : ℕ) (os : List OpenEntry) → Climb b os → k < b → filter (has_heard k) os ≡ []
   none_in b [] h less = refl
-  none_in b (o ∷ os) h less =
-      let first = h.0 in not_heard k o os (λ e. omega arith) ∙ none_in o.draws os h.1 (omega arith)
+  none_in b (o ∷ os) h less = let first = h.0 in not_heard k o os (λ e. omega arith) ∙ none_in o.draws os h.1 (omega arith)
 
   pub front_takes : (os : List OpenEntry) → Climb k os → take (count_first_opens k os) os ≡ filter (has_heard k) os
   front_takes [] h = refl
   front_takes (o ∷ os) h = dite (ℕ_discrete o.draws k)
       (λ e. (λ i. take (front_more o os e i) (o ∷ os)) ∙ ap (λ (l : List OpenEntry). o ∷ l) (front_takes os (subst (λ (n : ℕ). Climb n os) e h.1))
       ∙ sym (heard_first k o os e))
-      (λ ne. let low = h.0 in
-      (λ i. take (front_none o os ne i) (o ∷ os)) ∙ sym (not_heard k o os ne ∙ none_in o.draws os h.1 (omega arith)))
+      (λ ne. let low = h.0 in (λ i. take (front_none o os ne i) (o ∷ os)) ∙ sym (not_heard k o os ne ∙ none_in o.draws os h.1 (omega arith)))
 
   pub front_climbs : (os : List OpenEntry) → Climb k os → Climb (suc k) (drop (count_first_opens k os) os)
   front_climbs [] h = tt
@@ -99,15 +78,12 @@ pub record IsTelling (k i : ℕ) (now was : List WaitingFields) (told all : List
 module _ (k : ℕ) where
   pub tell_next : (i : ℕ) (now was : List WaitingFields) (told all new : List (Step × Reply)) (x v : WaitingFields) → i < length now → drop i now ≡ x ∷ drop (i + 1) now
       → IsLeft k x v → new ≡ told ++ opened_at k x → IsTelling k i now was told all → IsTelling k (i + 1) (set now i v) was new all
-  tell_next i now was told all new x v less next left n h =
-      let before : List WaitingFields = take i now in
-      let after : List WaitingFields = drop (i + 1) now in
+  tell_next i now was told all new x v less next left n h = let before : List WaitingFields = take i now in let after : List WaitingFields = drop (i + 1) now in
       let past : drop (i + 1) (set now i v) ≡ after = drop-set-lt (i + 1) now i v (omega arith) in
       let upto : take (i + 1) (set now i v) ≡ before ++ v ∷ [] = take_more_set now i v less in
       let is_now : now ≡ before ++ x ∷ after = sym (take-append-drop i now) ∙ ap (λ l. before ++ l) next in
       let is_set : set now i v ≡ before ++ v ∷ after = sym (take-append-drop i (set now i v)) ∙ (λ j. take-set now i v j ++ drop-set now i v less j) in
-      let left_over : AllClimb k (x ∷ after) = subst (AllClimb k) next h.rest in
-      record {
+      let left_over : AllClimb k (x ∷ after) = subst (AllClimb k) next h.rest in record {
         so_far = (λ j. n j ++ flat_map (opened_at k) (past j)) ∙ append_assoc told (opened_at k x) (flat_map (opened_at k) after) ∙ ap (λ l. told ++ flat_map (opened_at k) l) (sym next) ∙ h.so_far;
         done = subst (AllClimb (suc k)) (sym upto) (each_append (λ (w : WaitingFields). Climb (suc k) w.opens) before (v ∷ []) h.done (left.climb, tt));
         rest = subst (AllClimb k) (sym past) left_over.1;
@@ -116,8 +92,7 @@ module _ (k : ℕ) where
 
 -- the reader at a place, and those after it
 pub reader_at : (ws : List Waiting) (i : ℕ) (d : Waiting) → i < length ws → drop i (map view_waiting ws) ≡ view_waiting (get_or ws i d) ∷ drop (i + 1) (map view_waiting ws)
-reader_at ws i d less =
-    let one : suc i ≡ i + 1 = omega arith in
+reader_at ws i d less = let one : suc i ≡ i + 1 = omega arith in
     drop-cons (map view_waiting ws) i (view_waiting d) (omega (arith, length-map ws view_waiting, less)) ∙ (λ j. get_or-map view_waiting ws i d (view_waiting d) less j ∷ drop (one j) (map view_waiting ws))
 
 pub reader_climbs : (k i : ℕ) (ws : List Waiting) (d : Waiting) → i < length ws → AllClimb k (drop i (map view_waiting ws)) → Climb k (get_or ws i d).opens.now
@@ -133,16 +108,13 @@ reader_told k i ws was told all new d v less left n h =
 
 pub numbers_more : {X : Type 0} (f : ℕ → List X) (r : ℕ) (told new all : List X) → r < 65 → told ++ flat_map f (range_with_len r (65 - r)) ≡ all → new ≡ told ++ f r
     → new ++ flat_map f (range_with_len (r + 1) (65 - (r + 1))) ≡ all
-numbers_more f r told new all less h n =
-    let e : 65 - r ≡ suc (65 - (r + 1)) = omega arith in
-    let rest = flat_map f (range_with_len (r + 1) (65 - (r + 1))) in
+numbers_more f r told new all less h n = let e : 65 - r ≡ suc (65 - (r + 1)) = omega arith in let rest = flat_map f (range_with_len (r + 1) (65 - (r + 1))) in
     ap (λ l. l ++ rest) n ∙ append_assoc told (f r) rest ∙ ap (λ (c : ℕ). told ++ flat_map f (range_with_len r c)) (sym e) ∙ h
 
 module _ (k : ℕ) where
   one_by : (r : ℕ) (passes : List ReaderView) → flat_map (opened_at k) (waited_by passes r) ≡ opens_of passes k r
   one_by r [] = refl
-  one_by r (p ∷ ps) =
-      let rest : List OpenEntry = opens_by r ps in
+  one_by r (p ∷ ps) = let rest : List OpenEntry = opens_by r ps in
       let told : Bool → List (Step × Reply) = λ b. map (opened_of r) (filter (has_heard k) ((if b then p.opens else []) ++ rest)) in
       dite (ℕ_discrete p.reader r)
       (λ e. ap (flat_map (opened_at k)) (filter_takes (λ (w : WaitingFields). w.reader == r) (all_wait p) (map all_wait ps) (eq-eqb p.reader r e))

@@ -1,35 +1,23 @@
 -- Such a catalogue, and such opens, can be: those of a run of the world.
-use Rattle.std.proofs.Common.{◌≡◌, ℕ, zero, suc, ◌<◌, ◌≤◌, List, [], ◌∷◌, take, get_or, Some, Ok, refl, subst, arith}
-use Rattle.std.specs.Prelude.{slice_get, slice_index_or}
-use Rattle.ts_packet.specs.declared.Fate.{Fate}
+use Rattle.history_merge.proofs.Words.{◌≡◌, ℕ, zero, suc, ◌<◌, ◌≤◌, List, [], ◌∷◌, take, get_or, Some, Ok, refl, subst, arith, slice_get, slice_index_or, Fate, GenerationState, ArePublishable, CatalogueState, IsHistory, IsEntered, entry_after, trees_of, Entry, ReaderView, OpenEntry, Drawing, state_of, drawings_of, AreAnswered, AMergeIsReady, AreParts}
 use Rattle.ts_packet.specs.declared.Fate.TheVariants.{Keep, Lose, Flip}
 use Rattle.ddb_block.specs.Message.{message_at}
 use Rattle.ddb_block.specs.Blocks.{block_at}
 use Rattle.oc_bytes.specs.Cursor.{each_at, sized_at}
 use Rattle.oc_bytes.specs.Grammar.{read}
-use Rattle.dsi_dii.specs.ControlReading.{dii_at, dsi_at, frame_at, private_at}
+use Rattle.dsi_dii.specs.Controls.{dii_at, dsi_at}
 use Rattle.biop_object.specs.ObjectReading.{object_at}
 use Rattle.path_resolver.specs.declared.answer.Answer.TheVariants as answers
 use Rattle.module_packer.specs.Kept as placement
 use Rattle.cycle_planner.specs.Cycle as cycles
 use Rattle.cycle_planner.specs.declared.Item.TheVariants.{Dsi, Dii, Block}
-use Rattle.generation.specs.Layouts.{GenerationState}
-use Rattle.generation.specs.Lawful.{ArePublishable}
-use Rattle.generation_catalogue.specs.History.{CatalogueState, IsHistory, IsEntered, entry_after, trees_of}
-use Rattle.generation_catalogue.specs.declared.entry.Entry.{Entry}
 use Rattle.generation_catalogue.specs.declared.entry.Entry.TheVariants as entries
 use Rattle.cycle_planner.proofs.CallerLemmas.{are_ones}
-use Rattle.open_history.specs.Opens.{ReaderView}
-use Rattle.open_history.specs.declared.entry.OpenEntry.{OpenEntry}
-use Rattle.carousel_world.specs.World.{Drawing}
 use Rattle.carousel_world.specs.Runs.{ones, RunIsPremised, the_path, puts}
 use Rattle.carousel_world.proofs.CallerLemmas.{generation_with}
-use Rattle.history_merge.specs.Merges.{state_of, drawings_of, AreAnswered}
-use Rattle.history_merge.specs.Merged.{AMergeIsReady, AreParts}
 
 abbrev those : List Entry
-those =
-    entries.Commit 0 (puts (1 ∷ 2 ∷ 3 ∷ [])) (Ok 1) ∷ entries.Draw 1048576 1 0 3 ∷ entries.Commit 1 (puts (4 ∷ 5 ∷ 6 ∷ [])) (Ok 2)
+those = entries.Commit 0 (puts (1 ∷ 2 ∷ 3 ∷ [])) (Ok 1) ∷ entries.Draw 1048576 1 0 3 ∷ entries.Commit 1 (puts (4 ∷ 5 ∷ 6 ∷ [])) (Ok 2)
     ∷ entries.Draw 1048576 2 0 3 ∷ entries.Draw 1048576 2 0 3 ∷ []
 
 abbrev kept : CatalogueState
@@ -39,8 +27,7 @@ abbrev all_fates : List (List Fate)
 all_fates = (Flip 800 ∷ Keep ∷ Lose ∷ []) ∷ (Keep ∷ Flip 800 ∷ Keep ∷ []) ∷ [] ∷ []
 
 abbrev first_opens : List OpenEntry
-first_opens =
-    record { shot = 1; draws = 1; label = Some 1; path = the_path; answer = answers.NoCarousel }
+first_opens = record { shot = 1; draws = 1; label = Some 1; path = the_path; answer = answers.NoCarousel }
     ∷ record { shot = 2; draws = 2; label = Some 2; path = the_path; answer = answers.NotYet 1 } ∷ []
 
 abbrev second_opens : List OpenEntry
@@ -143,8 +130,7 @@ abbrev cycle_drawn : GenerationState → List Fate → Drawing
 cycle_drawn g fates = record { generation = g; items = Dsi ∷ Dii 1 ∷ Block 1 0 ∷ []; fates = fates }
 
 abbrev drawn : List Drawing
-drawn =
-    cycle_drawn (generation_with 1 (1 ∷ 2 ∷ 3 ∷ []) 1) (Flip 800 ∷ Keep ∷ Lose ∷ [])
+drawn = cycle_drawn (generation_with 1 (1 ∷ 2 ∷ 3 ∷ []) 1) (Flip 800 ∷ Keep ∷ Lose ∷ [])
     ∷ cycle_drawn (generation_with 2 (4 ∷ 5 ∷ 6 ∷ []) 2) (Keep ∷ Flip 800 ∷ Keep ∷ []) ∷ cycle_drawn (generation_with 2 (4 ∷ 5 ∷ 6 ∷ []) 2) [] ∷ []
 
 drawn_is : drawn ≡ drawings_of kept all_fates
@@ -152,7 +138,7 @@ unfolding placement.kept_modules placement.least_with cycles.groups_from
 drawn_is = refl
 
 answered : AreAnswered drawn readers
-unfolding read message_at block_at each_at dii_at dsi_at object_at sized_at frame_at private_at
+unfolding read message_at block_at each_at dii_at dsi_at object_at sized_at
 answered = (((refl, refl), ((refl, refl), tt)), (((refl, refl), tt), tt))
 
 pub ready : RunIsPremised → AMergeIsReady

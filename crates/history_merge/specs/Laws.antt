@@ -1,6 +1,5 @@
 -- Where the opens of a history stand.
-use Rattle.std.specs.Prelude.{◌≡◌, ℕ, suc, ◌≤◌, Bool, List, [], ◌∷◌, ◌++◌, map, if◌then◌else◌}
-use Rattle.std.specs.List.{filter, count_by}
+use Rattle.std.specs.Prelude.{◌≡◌, ℕ, suc, ◌≤◌, Bool, List, [], ◌∷◌, ◌++◌, map, if◌then◌else◌, filter, count_by}
 use Rattle.open_history.specs.declared.entry.OpenEntry.{OpenEntry}
 
 module _ {X : Type 0} where

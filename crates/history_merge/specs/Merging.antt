@@ -1,7 +1,7 @@
 -- One history out of a catalogue's entries and the readers' passes: the entries in their order, and after each draw the opens whose shots
 -- had heard so many draws, by the readers' numbers and then in each reader's order. The order is this project's own.
-use Rattle.std.specs.Prelude.{ℕ, suc, ◌==◌, Bool, List, [], ◌∷◌, ◌++◌, map, drop, get_or, if◌then◌else◌}
-use Rattle.std.specs.List.{flat_map, filter, range_with_len}
+use Rattle.std.specs.Prelude.{ℕ, suc, ◌==◌, Bool, List, [], ◌∷◌, ◌++◌, map, drop, get_or, if◌then◌else◌, flat_map, filter}
+use Rattle.std.specs.List.{range_with_len}
 use Rattle.ts_packet.specs.declared.Fate.{Fate}
 use Rattle.generation_catalogue.specs.declared.entry.Entry.{Entry}
 use Rattle.generation_catalogue.specs.declared.entry.Entry.TheVariants as entries

@@ -1,6 +1,6 @@
 //! The opens that stand in no history yet.
-ghost use Rattle.std.specs.Prelude.{◌≡◌, ◌≤◌, ◌++◌, IfOk, OnOk, length, map};
-ghost use Rattle.std.specs.List.{flat_map, range_with_len};
+ghost use Rattle.std.specs.Prelude.{◌≡◌, ◌≤◌, ◌++◌, IfOk, OnOk, length, map, flat_map};
+ghost use Rattle.std.specs.List.{range_with_len};
 ghost use Rattle.history_merge.specs.Merging.{opened_of};
 ghost use Rattle.history_merge.specs.Merges.{known_view};
 ghost use Rattle.history_merge.specs.Inner.Waiting.{view_waiting, waited_by, opened_at, count_first_opens, Climb, IsLeft, AllClimb, AreLeft};

@@ -1,13 +1,16 @@
 -- Reading an IOR and the relation of its bytes say the same, and the written form has its spelling.
 use Rattle.std.proofs.Common.{◌≡◌, ℕ, ◌+◌, List, [], ◌∷◌, ◌++◌, length, Some, Ok, refl, sym, ap, subst, ◌∙◌, append_assoc, arith}
 use Rattle.std.proofs.lemmas.List.{append-nil, length-append}
+use Rattle.std.specs.Prelude.{unwrap_or, option_and_then}
 use Rattle.oc_bytes.specs.Numbers.{two_bytes, four_bytes}
 use Rattle.oc_bytes.specs.Cursor.{Reading, from_start, read_from_start}
 use Rattle.oc_bytes.specs.Agreement.{at, Agrees, InBytes}
 use Rattle.oc_bytes.specs.Grammar.{Fits, spell, front_of}
 use Rattle.oc_bytes.proofs.CallerLemmas.{agrees_by, grammar_agrees, fits_reads, spelled_again, spelled_front, front_spelled}
 use Rattle.ior_tap.specs.declared.Location.{Location}
-use Rattle.ior_tap.specs.Iors.{TapFields, ProfileFields, Biop, Fields, tap, location, taps, components, profile, ior, biop_tag, location_tag, binder_tag, biop_in, or_other, tag_of, content_of, ReadsTap, Reads, written_tap, written_form, IsWritten, IsLocation, tap_bytes, component_bytes, location_bytes, biop_bytes, spelling}
+use Rattle.ior_tap.specs.Iors.{TapFields, ProfileFields, Biop, Fields, tap, location, taps, components, profile, ior, biop_in, Reads, written_tap, written_form, IsWritten, IsLocation, tap_bytes, component_bytes, location_bytes, biop_bytes, spelling, spelled_by, Other}
+use Rattle.ior_tap.specs.declared.tags.TheConstants.{BIOP_TAG, LOCATION_TAG, BINDER_TAG}
+use Rattle.ior_tap.specs.Inner.Iors.{ReadsTap}
 use Rattle.ior_tap.specs.IorReading.{tap_at, ior_at}
 
 pub tap_agrees : Agrees tap_at ReadsTap
@@ -23,7 +26,7 @@ abbrev written_taps : Location → List TapFields
 written_taps l = written_tap l.module ∷ []
 
 abbrev written_content : Location → List ℕ
-written_content l = content_of (Biop l (written_taps l))
+written_content l = (spelled_by (Biop l (written_taps l))).1
 
 abbrev spelled_content : Location → List ℕ
 spelled_content l = biop_bytes l (written_taps l)
@@ -32,7 +35,7 @@ location_whole : (l : Location) → spell location l ≡ location_bytes l
 unfolding spell
 location_whole l = simp append-nil
 
-both_whole : (a b : List ℕ) → spell components ((location_tag, a) ∷ (binder_tag, b) ∷ []) ≡ 0 ∷ 2 ∷ component_bytes location_tag a ++ component_bytes binder_tag b
+both_whole : (a b : List ℕ) → spell components ((LOCATION_TAG, a) ∷ (BINDER_TAG, b) ∷ []) ≡ 0 ∷ 2 ∷ component_bytes LOCATION_TAG a ++ component_bytes BINDER_TAG b
 unfolding spell
 both_whole a b = rw (append-nil a) (simp append-nil)
 
@@ -40,36 +43,36 @@ content_is : (l : Location) → written_content l ≡ spelled_content l
 unfolding spell
 content_is l =
     both_whole (spell location l) (spell taps (written_taps l))
-    ∙ ap (λ (s : List ℕ). 0 ∷ 2 ∷ component_bytes location_tag s ++ component_bytes binder_tag (spell taps (written_taps l))) (location_whole l)
+    ∙ ap (λ (s : List ℕ). 0 ∷ 2 ∷ component_bytes LOCATION_TAG s ++ component_bytes BINDER_TAG (spell taps (written_taps l))) (location_whole l)
 
 spelled_length : (l : Location) → length l.key ≡ 4 → length (spelled_content l) ≡ 43
-spelled_length l key = omega (arith, key, length-append l.key (component_bytes binder_tag (1 ∷ tap_bytes (written_tap l.module))))
+spelled_length l key = omega (arith, key, length-append l.key (component_bytes BINDER_TAG (1 ∷ tap_bytes (written_tap l.module))))
 
 -- what stands around the content of the one profile
 abbrev around : List ℕ → ℕ → List ℕ → List ℕ
 around kind tag content = four_bytes 4 ++ (kind ++ (four_bytes 1 ++ (four_bytes tag ++ (four_bytes (length content) ++ content))))
 
-form_whole : (kind : List ℕ) (p : ProfileFields) → spell ior (record { kind = kind; profiles = p ∷ [] }) ≡ around kind (tag_of p) (content_of p)
+form_whole : (kind : List ℕ) (p : ProfileFields) → spell ior (record { kind = kind; profiles = p ∷ [] }) ≡ around kind (spelled_by p).0 (spelled_by p).1
 unfolding spell
 form_whole kind p = simp append-nil
 
 grouped : (a k b t n p : List ℕ) → a ++ k ++ b ++ t ++ n ++ p ≡ a ++ (k ++ (b ++ (t ++ (n ++ p))))
 grouped a k b t n p = simp append_assoc
 
-spelling_whole : (kind : List ℕ) (l : Location) → spelling kind l ≡ around kind biop_tag (spelled_content l)
-spelling_whole kind l = grouped (four_bytes 4) kind (four_bytes 1) (four_bytes biop_tag) (four_bytes (length (spelled_content l))) (spelled_content l)
+spelling_whole : (kind : List ℕ) (l : Location) → spelling kind l ≡ around kind BIOP_TAG (spelled_content l)
+spelling_whole kind l = grouped (four_bytes 4) kind (four_bytes 1) (four_bytes BIOP_TAG) (four_bytes (length (spelled_content l))) (spelled_content l)
 
 spelling_is : (kind : List ℕ) (l : Location) → spell ior (written_form kind l) ≡ spelling kind l
-spelling_is kind l = form_whole kind (Biop l (written_taps l)) ∙ ap (around kind biop_tag) (content_is l) ∙ sym (spelling_whole kind l)
+spelling_is kind l = form_whole kind (Biop l (written_taps l)) ∙ ap (around kind BIOP_TAG) (content_is l) ∙ sym (spelling_whole kind l)
 
 pub spelling_length : (kind : List ℕ) (l : Location) → length kind ≡ 4 → length l.key ≡ 4 → length (spelling kind l) ≡ 63
 spelling_length kind l four key =
-    let behind : List ℕ = four_bytes 1 ++ (four_bytes biop_tag ++ (four_bytes (length (spelled_content l)) ++ spelled_content l)) in
+    let behind : List ℕ = four_bytes 1 ++ (four_bytes BIOP_TAG ++ (four_bytes (length (spelled_content l)) ++ spelled_content l)) in
     ap length (spelling_whole kind l) ∙ omega (arith, four, length-append kind behind, spelled_length l key)
 
 -- the parts that are put are the spelling
-pub put_is : (kind : List ℕ) (l : Location) → length l.key ≡ 4 → four_bytes 4 ++ (kind ++ (four_bytes 1 ++ (four_bytes biop_tag ++ (four_bytes 43 ++ (0 ∷ 2 ∷ four_bytes location_tag
-    ++ (13 ∷ four_bytes l.carousel ++ (two_bytes l.module ++ (1 ∷ 0 ∷ 4 ∷ l.key ++ component_bytes binder_tag (1 ∷ tap_bytes (written_tap l.module)))))))))) ≡ spelling kind l
+pub put_is : (kind : List ℕ) (l : Location) → length l.key ≡ 4 → four_bytes 4 ++ (kind ++ (four_bytes 1 ++ (four_bytes BIOP_TAG ++ (four_bytes 43 ++ (0 ∷ 2 ∷ four_bytes LOCATION_TAG
+    ++ (13 ∷ four_bytes l.carousel ++ (two_bytes l.module ++ (1 ∷ 0 ∷ 4 ∷ l.key ++ component_bytes BINDER_TAG (1 ∷ tap_bytes (written_tap l.module)))))))))) ≡ spelling kind l
 put_is kind l key = sym (spelling_whole kind l ∙ rw (spelled_length l key, key) refl)
 
 -- ---- the written form
@@ -82,14 +85,14 @@ taps_fit : (l : Location) → Fits taps (written_taps l)
 unfolding Fits
 taps_fit l = (omega arith, (refl, ((omega arith, (omega arith, (omega arith, (omega arith, refl)))), tt)))
 
-parts_fit : (l : Location) → length l.key ≡ 4 → Fits components ((location_tag, spell location l) ∷ (binder_tag, spell taps (written_taps l)) ∷ [])
+parts_fit : (l : Location) → length l.key ≡ 4 → Fits components ((LOCATION_TAG, spell location l) ∷ (BINDER_TAG, spell taps (written_taps l)) ∷ [])
 unfolding Fits spell
 parts_fit l key = ((omega arith, refl), (omega arith, (refl, ((omega arith, (omega (arith, key, ap length (location_whole l)), refl)), ((omega arith, (omega arith, refl)), tt)))))
 
-biop_found : (l : Location) → length l.key ≡ 4 → IsLocation l → biop_in (front_of components (written_content l)) ≡ Some (Biop l (written_taps l))
+biop_found : (l : Location) → length l.key ≡ 4 → IsLocation l → option_and_then biop_in (front_of components (written_content l)) ≡ Some (Biop l (written_taps l))
 biop_found l key room =
     rw (
-      front_spelled components ((location_tag, spell location l) ∷ (binder_tag, spell taps (written_taps l)) ∷ []) (parts_fit l key),
+      front_spelled components ((LOCATION_TAG, spell location l) ∷ (BINDER_TAG, spell taps (written_taps l)) ∷ []) (parts_fit l key),
       front_spelled location l (location_fits l key room),
       front_spelled taps (written_taps l) (taps_fit l),
     )
@@ -97,7 +100,7 @@ biop_found l key room =
 profile_fits : (l : Location) → length l.key ≡ 4 → IsLocation l → Fits profile (Biop l (written_taps l))
 unfolding Fits
 profile_fits l key room =
-    (omega arith, (omega (arith, ap length (content_is l), spelled_length l key), sym (ap (or_other biop_tag (written_content l)) (biop_found l key room))))
+    (omega arith, (omega (arith, ap length (content_is l), spelled_length l key), sym (ap (λ o. unwrap_or o (Other BIOP_TAG (written_content l))) (biop_found l key room))))
 
 written_fits : (kind : List ℕ) (l : Location) → IsWritten (written_form kind l) l → IsLocation l → Fits ior (written_form kind l)
 unfolding Fits

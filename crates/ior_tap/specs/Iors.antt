@@ -1,6 +1,8 @@
 -- IORs: object references with a location and taps.
-use Rattle.std.specs.Prelude.{◌≡◌, ℕ, ◌+◌, ◌*◌, ◌<◌, ◌≤◌, List, [], ◌∷◌, ◌++◌, length, map, take, drop, Option, Some, None, nat_le, ◌==◌, ◌&&◌, if◌then◌else◌}
+use Rattle.std.specs.Prelude.{◌≡◌, ℕ, ◌+◌, ◌*◌, ◌<◌, ◌≤◌, List, [], ◌∷◌, ◌++◌, length, map, take, drop, Option, Some, None, nat_le, ◌==◌, ◌&&◌, if◌then◌else◌, unwrap_or, option_map, option_and_then}
 use Rattle.std.specs.List.{flat_map}
+use Rattle.std.specs.Option.{option_zip}
+use Rattle.carousel_profile.specs.declared.TheConstants.{ASSOCIATION_TAG, DELIVERY_USE, DSI_TRANSACTION, NO_TIME_OUT}
 use Rattle.oc_bytes.specs.Numbers.{two_bytes, four_bytes, number_of}
 use Rattle.oc_bytes.specs.Grammar.{Grammar, one, two, four, number, bytes, sized, each, field, gives, this, front_of, spell, Reads as ReadsBy}
 use Rattle.module_groups.specs.declared.TheConstants.{GREATEST_ID}
@@ -12,6 +14,7 @@ use Rattle.ior_tap.specs.declared.Profile.TheVariants as code
 use Rattle.ior_tap.specs.declared.Ior.{Ior}
 use Rattle.ior_tap.specs.declared.IorFault.{IorFault}
 use Rattle.ior_tap.specs.declared.IorFault.TheVariants as faults
+use Rattle.ior_tap.specs.declared.tags.TheConstants.{BIOP_TAG, LOCATION_TAG, BINDER_TAG}
 
 pub record TapFields : Type 0 where
   pub id : ℕ
@@ -36,18 +39,6 @@ view_profile (code.Other tag content) = Other tag content.items
 
 abbrev pub view : Ior → Fields
 view ior = record { kind = ior.kind; profiles = map view_profile ior.profiles.items }
-
-abbrev pub Component : Type 0
-Component = ℕ × List ℕ
-
-abbrev pub biop_tag : ℕ
-biop_tag = 0x49534F06
-
-abbrev pub location_tag : ℕ
-location_tag = 0x49534F50
-
-abbrev pub binder_tag : ℕ
-binder_tag = 0x49534F40
 
 -- ---- the grammar
 
@@ -75,59 +66,47 @@ taps =
     each tap count
 
 -- a component of a profile: its tag and its bytes
-abbrev pub component : Grammar Component
+abbrev pub component : Grammar (ℕ × List ℕ)
 component =
     field (number four) (λ c. c.0) λ tag.
     field (sized one) (λ c. c.1) λ content.
     gives (tag, content)
 
 -- what a BIOP profile holds; its byte order is 0
-abbrev pub components : Grammar (List Component)
+abbrev pub components : Grammar (List (ℕ × List ℕ))
 components =
     field (this one 0) (λ cs. 0) λ byte_order.
     field (number one) (λ cs. length cs) λ count.
     each component count
 
 -- the first component of a tag
-abbrev pub component_of : ℕ → List Component → Option (List ℕ)
+abbrev pub component_of : ℕ → List (ℕ × List ℕ) → Option (List ℕ)
 component_of tag [] = None
 component_of tag (c ∷ cs) = if c.0 == tag then Some c.1 else component_of tag cs
 
--- what a component's bytes stand for; bytes after it are passed over
-abbrev pub part_of : {A : Type 0} → Grammar A → Option (List ℕ) → Option A
-part_of g (Some content) = front_of g content
-part_of g None = None
-
-abbrev pub both : Option Location → Option (List TapFields) → Option ProfileFields
-both (Some l) (Some ts) = Some (Biop l ts)
-both _ _ = None
-
-abbrev pub biop_in : Option (List Component) → Option ProfileFields
-biop_in (Some cs) = both (part_of location (component_of location_tag cs)) (part_of taps (component_of binder_tag cs))
-biop_in None = None
-
-abbrev pub or_other : ℕ → List ℕ → Option ProfileFields → ProfileFields
-or_other tag content (Some reference) = reference
-or_other tag content None = Other tag content
+-- a location and taps, where both components are there and are read; bytes after them are passed over
+abbrev pub biop_in : List (ℕ × List ℕ) → Option ProfileFields
+biop_in cs = option_map (λ p. Biop p.0 p.1) (option_zip
+    (option_and_then (front_of location) (component_of LOCATION_TAG cs))
+    (option_and_then (front_of taps) (component_of BINDER_TAG cs)))
 
 -- What a profile's bytes stand for: with the BIOP tag and both components in the right form a location and taps, and else
 -- any other profile. Other components, and bytes after the last one, are passed over.
 abbrev pub profile_of : ℕ → List ℕ → ProfileFields
-profile_of tag content = or_other tag content (if tag == biop_tag then biop_in (front_of components content) else None)
+profile_of tag content =
+    unwrap_or (if tag == BIOP_TAG then option_and_then biop_in (front_of components content) else None)
+    (Other tag content)
 
 -- the tag and the bytes with which a profile is spelled: the location first, then the taps
-abbrev pub tag_of : ProfileFields → ℕ
-tag_of (Biop l ts) = biop_tag
-tag_of (Other tag content) = tag
-
-abbrev pub content_of : ProfileFields → List ℕ
-content_of (Biop l ts) = spell components ((location_tag, spell location l) ∷ (binder_tag, spell taps ts) ∷ [])
-content_of (Other tag content) = content
+abbrev pub spelled_by : ProfileFields → ℕ × List ℕ
+spelled_by (Biop l ts) =
+    (BIOP_TAG, spell components ((LOCATION_TAG, spell location l) ∷ (BINDER_TAG, spell taps ts) ∷ []))
+spelled_by (Other tag content) = (tag, content)
 
 abbrev pub profile : Grammar ProfileFields
 profile =
-    field (number four) tag_of λ tag.
-    field (sized four) content_of λ content.
+    field (number four) (λ p. (spelled_by p).0) λ tag.
+    field (sized four) (λ p. (spelled_by p).1) λ content.
     gives (profile_of tag content)
 
 -- an IOR: the type id has four bytes
@@ -139,10 +118,7 @@ ior =
     field (each profile count) (λ i. i.profiles) λ profiles.
     gives (record { kind = kind; profiles = profiles })
 
--- the bytes, all of them, are read as the tap, or as the IOR
-abbrev pub ReadsTap : List ℕ → TapFields → Type 0
-ReadsTap = ReadsBy tap
-
+-- the bytes, all of them, are read as the IOR
 abbrev pub Reads : List ℕ → Fields → Type 0
 Reads = ReadsBy ior
 
@@ -150,11 +126,11 @@ Reads = ReadsBy ior
 
 -- the transactionId by which a module is delivered: the identification is that of the DII that lists it, its group; version and flag are 0
 abbrev pub delivery_of_module : ℕ → ℕ
-delivery_of_module m = 0x80000000 + 2 * group_of m
+delivery_of_module m = DSI_TRANSACTION + 2 * group_of m
 
 -- the tap that is written for a module: delivery by the control messages
 abbrev pub written_tap : ℕ → TapFields
-written_tap m = record { id = 0; use_code = 0x0016; assoc = 0x0001; selector = two_bytes 0x0001 ++ four_bytes (delivery_of_module m) ++ four_bytes 0xFFFFFFFF }
+written_tap m = record { id = 0; use_code = DELIVERY_USE; assoc = ASSOCIATION_TAG; selector = two_bytes 0x0001 ++ four_bytes (delivery_of_module m) ++ four_bytes NO_TIME_OUT }
 
 -- the one form that is written: a profile with a location and the tap of its module
 abbrev pub written_form : List ℕ → Location → Fields
@@ -181,13 +157,13 @@ abbrev pub location_bytes : Location → List ℕ
 location_bytes l = four_bytes l.carousel ++ two_bytes l.module ++ 1 ∷ 0 ∷ length l.key ∷ l.key
 
 abbrev pub biop_bytes : Location → List TapFields → List ℕ
-biop_bytes l ts = 0 ∷ 2 ∷ component_bytes location_tag (location_bytes l)
-    ++ component_bytes binder_tag (length ts ∷ flat_map tap_bytes ts)
+biop_bytes l ts = 0 ∷ 2 ∷ component_bytes LOCATION_TAG (location_bytes l)
+    ++ component_bytes BINDER_TAG (length ts ∷ flat_map tap_bytes ts)
 
 -- the one spelling of a location of objects of this kind, byte by byte: what the grammar spells for the written form
 abbrev pub spelling : List ℕ → Location → List ℕ
 spelling kind l = let content = biop_bytes l (written_tap l.module ∷ []) in
-    four_bytes 4 ++ kind ++ four_bytes 1 ++ four_bytes biop_tag ++ four_bytes (length content) ++ content
+    four_bytes 4 ++ kind ++ four_bytes 1 ++ four_bytes BIOP_TAG ++ four_bytes (length content) ++ content
 
 -- the first profile that has a location
 abbrev pub biop_of_profiles : List ProfileFields → Option (Location × List TapFields)
@@ -199,7 +175,7 @@ biop_of_profiles (Other tag content ∷ rs) = biop_of_profiles rs
 abbrev pub delivery_of_taps : List TapFields → Option ℕ
 delivery_of_taps [] = None
 delivery_of_taps (t ∷ ts) =
-    if (t.use_code == 0x0016) && nat_le 10 (length t.selector) && (number_of (take 2 t.selector) == 1)
+    if (t.use_code == DELIVERY_USE) && nat_le 10 (length t.selector) && (number_of (take 2 t.selector) == 1)
     then Some (number_of (take 4 (drop 2 t.selector)))
     else delivery_of_taps ts
 

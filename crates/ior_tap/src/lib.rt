@@ -20,6 +20,7 @@ ghost use Rattle.ior_tap.specs.declared.IorFault.TheVariants.{BadIor, NoMemory a
 mod key;
 mod lookup;
 mod reading;
+mod tags;
 mod writing;
 
 pub use key::Key;
@@ -27,6 +28,7 @@ pub use lookup::{biop_of, delivery_of};
 use oc_bytes::Cut;
 pub use reading::{decode, one_reading};
 use std::alloc::{AllocError, AllocFailed};
+pub use tags::{BINDER_TAG, BIOP_TAG, LOCATION_TAG, tags_are_numbers};
 use thiserror::Error;
 pub use writing::{delivery_of_module, encode, put_reference};
 
@@ -91,15 +93,6 @@ pub enum IorFault {
     #[error("out of memory")]
     NoMemory,
 }
-
-/// The tag of a BIOP profile.
-const BIOP_TAG: u32 = 0x49534F06;
-
-/// The tag of an ObjectLocation.
-const LOCATION_TAG: u32 = 0x49534F50;
-
-/// The tag of a ConnBinder.
-const BINDER_TAG: u32 = 0x49534F40;
 
 impl From<Cut> for IorFault {
     ghost from_gives = { λ cut e. e ≡ BadIor cut.0 };

@@ -3,6 +3,7 @@ ghost use Rattle.std.specs.Option.{option_map};
 ghost use Rattle.ior_tap.specs.Iors.{view, biop_of_profiles, delivery_of_taps, view_tap};
 
 use crate::{Binder, Ior, Location, Profile, Tap};
+use carousel_profile::DELIVERY_USE;
 
 /// The location and the taps of the first BIOP profile, if there is one. It takes no memory.
 pub fn biop_of(ior: &Ior) -> Option<(&Location, &Binder)>
@@ -29,8 +30,6 @@ pub fn delivery_of(binder: &Binder) -> Option<u32>
     }
     None
 }
-
-const DELIVERY_USE: u16 = 0x0016;
 
 fn delivery(tap: &Tap) -> Option<u32>
     ensures { result ≡ delivery_of_taps ((view_tap tap.now) ∷ []) }

@@ -1,10 +1,13 @@
 ghost use Rattle.std.specs.Prelude.{◌≡◌, ◌≤◌, ◌<◌, ◌+◌, ◌++◌, ◌==◌, List, ℕ, Ok, Some, None, length, take, map, IfOk, IfErr, IfSome, IsErrOf, IsOkAnd, if◌then◌else◌};
-ghost use Rattle.std.specs.Option.{option_map, option_copied, option_or};
+ghost use Rattle.std.specs.Option.{option_map, option_copied, option_or, option_and_then};
 ghost use Rattle.oc_bytes.specs.Outcome.{Gives};
+ghost use Rattle.oc_bytes.specs.Grammar.{front_of};
 ghost use Rattle.oc_bytes.specs.Cause.{place_of};
-ghost use Rattle.oc_bytes.specs.Cursor.{from_start, bytes_at, read_from_start, value_read, each_at};
+ghost use Rattle.oc_bytes.specs.Cursor.{from_start, bytes_at, read_from_start, each_at};
 ghost use Rattle.ior_tap.specs.Iors.{Fields as IorFields, view, view_tap, view_profile, Reads, IsWritten, IsLocation, written_form, spelling, biop_in, profile_of, cause};
-ghost use Rattle.ior_tap.specs.IorReading.{ior_at, profile_count_at, tap_at, taps_at, location_at, component_at, components_at, chosen_at, parts_at, profile_at};
+ghost use Rattle.ior_tap.specs.Iors as iors;
+ghost use Rattle.ior_tap.specs.IorReading.{ior_at, profile_count_at, tap_at};
+ghost use Rattle.ior_tap.specs.Inner.IorReading.{taps_at, location_at, component_at, chosen_at, parts_at, profile_at};
 ghost use Rattle.oc_bytes.specs.Agreement.{Agrees, InBytes, at};
 ghost use Rattle.ior_tap.specs.declared.Location.{Location};
 
@@ -69,7 +72,7 @@ fn location_of(alloc: Global, fields: &mut Fields<'_>) -> Result<Location, IorFa
 
 /// The location that a component's bytes hold, if they are read as one.
 fn location_in(alloc: Global, content: &[u8]) -> Result<Option<Location>, NoMemory>
-    ensures { IfOk result (λ l. l ≡ value_read (location_at (from_start content.now))) }
+    ensures { IfOk result (λ l. l ≡ front_of iors.location content.now) }
 {
     let mut fields = Fields::new(content);
     match location_of(alloc, &mut fields) {
@@ -83,7 +86,7 @@ fn location_in(alloc: Global, content: &[u8]) -> Result<Option<Location>, NoMemo
 fn binder_in(alloc: Global, content: &[u8]) -> Result<Option<Binder>, NoMemory>
     ensures { IfOk result (λ b.
         option_map (λ x. map view_tap x.taps.items) b
-        ≡ value_read (taps_at (from_start content.now))) }
+        ≡ front_of iors.taps content.now) }
 {
     let mut fields = Fields::new(content);
     match binder_of(alloc, &mut fields) {
@@ -122,11 +125,11 @@ impl<'a> Parts<'a> {
     fn with(self, component: Component<'a>) -> Parts<'a>
         ensures location { option_copied result.location
             ≡ option_or (option_copied self.entry.location)
-            (if component.entry.tag == 0x49534F50 then Some component.entry.content.now else
+            (if component.entry.tag == LOCATION_TAG then Some component.entry.content.now else
             None) }
         ensures binder { option_copied result.binder
             ≡ option_or (option_copied self.entry.binder)
-            (if component.entry.tag == 0x49534F40 then Some component.entry.content.now else
+            (if component.entry.tag == BINDER_TAG then Some component.entry.content.now else
             None) }
     {
         let content = Some(component.content);
@@ -174,7 +177,8 @@ fn parts_in<'a>(fields: &mut Fields<'a>) -> Result<Parts<'a>, Cut>
 /// The profile that the bytes of a BIOP profile hold, if both components are there in the right form.
 fn biop_in(alloc: Global, content: &[u8]) -> Result<Option<Profile>, NoMemory>
     ensures { IfOk result (λ p.
-        option_map view_profile p ≡ biop_in (value_read (components_at (from_start content.now)))) }
+        option_map view_profile p
+        ≡ option_and_then biop_in (front_of iors.components content.now)) }
 {
     let mut fields = Fields::new(content);
     let Ok(parts) = parts_in(&mut fields) else {

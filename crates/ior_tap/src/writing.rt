@@ -4,6 +4,7 @@ ghost use Rattle.ior_tap.specs.declared.Location.{Location};
 ghost use Rattle.module_groups.specs.declared.TheConstants.{GREATEST_ID};
 
 use crate::{BINDER_TAG, BIOP_TAG, Ior, LOCATION_TAG, Location, biop_of};
+use carousel_profile::{ASSOCIATION_TAG, DELIVERY_USE, DSI_TRANSACTION, NO_TIME_OUT};
 use module_groups::group_of;
 use oc_bytes::{NoMemory, Writer};
 use std::alloc::Global;
@@ -30,12 +31,15 @@ pub fn encode(alloc: Global, ior: &Ior) -> Result<Vec<u8>, NoMemory>
     Ok(out.done())
 }
 
+/// The last byte of the tap's use, whose first one is 0.
+const USE: u8 = DELIVERY_USE as u8;
+
+/// The last byte of the tap's association tag, whose first one is 0.
+const TAG: u8 = ASSOCIATION_TAG as u8;
+
 /// The ConnBinder that is written, up to its transactionId: one tap of id 0, use 0x0016 and association tag 0x0001, with a selector
 /// of type 0x0001.
-const BINDER_FRONT: [u8; 10] = [1, 0, 0, 0, 0x16, 0, 1, 10, 0, 1];
-
-/// No time-out.
-const NO_TIME_OUT: [u8; 4] = [0xFF; 4];
+const BINDER_FRONT: [u8; 10] = [1, 0, 0, 0, USE, 0, TAG, 10, 0, 1];
 
 /// The transactionId by which a module is delivered, by the module's id, 1 to [`module_groups::GREATEST_ID`]: that of the DII that
 /// lists the module, with version and flag 0, so that it stays from generation to generation. (ISO/IEC 13818-6, clause 11.3; that version
@@ -43,7 +47,7 @@ const NO_TIME_OUT: [u8; 4] = [0xFF; 4];
 pub fn delivery_of_module(id: u16) -> u32
     ensures { result ≡ delivery_of_module id }
 {
-    0x8000_0000 + 2 * u32::from(group_of(id))
+    DSI_TRANSACTION + 2 * u32::from(group_of(id))
 }
 
 /// Puts the spelling of a reference to an object, 63 bytes: what `encode` gives for the IOR of this kind and location.
@@ -79,6 +83,6 @@ pub fn put_reference(out: &mut Writer, kind: &[u8], location: &Location) -> Resu
         &[18],
         &BINDER_FRONT,
         &delivery_of_module(*module).to_be_bytes(),
-        &NO_TIME_OUT,
+        &NO_TIME_OUT.to_be_bytes(),
     ])
 }

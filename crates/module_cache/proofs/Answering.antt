@@ -13,10 +13,9 @@ use Rattle.module_cache.specs.Chains.{taken_listed, slot_listed}
 use Rattle.module_cache.specs.Contents.{whole_or, by_offer, taken_at, bytes_of}
 use Rattle.module_cache.specs.Held.{line_among, content_among, taken_line, taken_tuned, slot_in_line}
 use Rattle.module_cache.specs.Joining.{outline, lists, has_line, taken_from, taken_of, slot_at, tuned_of, held_in, state_in, taken_by, taken_among, slot_by, slot_among}
-use Rattle.module_cache.specs.LookBack.{block_among, blocks_among, module_among}
+use Rattle.module_cache.specs.Turns.{block_among, blocks_among, module_among, Turn, admitted, before}
 use Rattle.module_cache.specs.Slots.{Compressed, slot_of, whole_or_part}
 use Rattle.module_cache.specs.Spans.{Span, stretch}
-use Rattle.module_cache.specs.Turns.{Turn, admitted, before}
 use Rattle.module_cache.specs.declared.stored.Line.{Line}
 use Rattle.module_cache.specs.declared.taken.Taken.{Taken}
 use Rattle.module_cache.specs.declared.taken.Taken.TheVariants as taken

@@ -6,8 +6,8 @@ use Rattle.std.proofs.lemmas.List.Folds.{list_any-append}
 use Rattle.dsi_dii.specs.Controls.{DiiFields}
 use Rattle.dsi_dii.specs.declared.ModuleLine.{ModuleLine}
 use Rattle.module_cache.specs.Held.{TunedState}
-use Rattle.module_cache.specs.Joining.{Outline, outline, lists, AreApart, AreOnce, AreDistinct, numbers}
-use Rattle.module_cache.specs.Limits.{no_id_twice}
+use Rattle.module_cache.specs.Joining.{Outline, outline, lists, AreApart, AreOnce, AreDistinct, no_id_twice}
+use Rattle.module_cache.specs.Inner.Joining.{numbers}
 use Rattle.module_cache.proofs.Contents.{turned_round}
 
 any_or : {X : Type 0} (p q : X → Bool) (xs : List X) → list_any (λ x. p x || q x) xs ≡ false → (list_any p xs ≡ false) × (list_any q xs ≡ false)

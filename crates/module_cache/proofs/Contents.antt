@@ -12,10 +12,11 @@ use Rattle.module_cache.specs.declared.taken.Taken.{Taken}
 use Rattle.module_cache.specs.declared.taken.Taken.TheVariants as taken
 use Rattle.module_cache.specs.declared.stored.Line.{Line}
 use Rattle.block_assembler.specs.declared.Offer.TheVariants as offers
-use Rattle.module_cache.specs.LookBack.{fits, bytes_if_fits, block_among, blocks_among}
+use Rattle.module_cache.specs.Turns.{fits, block_among, blocks_among}
 use Rattle.module_cache.specs.Contents.{Content, Blocks, Whole, content_of, whole_or, content_after, by_offer, is_new, fresh_content}
 use Rattle.module_cache.specs.Held.{content_among, line_among, line_after, lines_after, line_fresh}
-use Rattle.module_cache.specs.Limits.{no_id_twice}
+use Rattle.module_cache.specs.Joining.{no_id_twice}
+use Rattle.module_cache.proofs.Same.{bytes_if_fits}
 use Rattle.module_cache.proofs.Lists.{map_like, range_set, range_at, range_length, range_replicate, or_else, or_none, first_more, all_there}
 
 -- ---- what one block makes of the content

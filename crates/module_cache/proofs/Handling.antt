@@ -8,9 +8,9 @@ use Rattle.ddb_block.specs.Blocks as ddb
 use Rattle.dsi_dii.specs.Controls.{DiiFields}
 use Rattle.dsi_dii.specs.declared.ModuleLine.{ModuleLine}
 use Rattle.module_cache.specs.Held.{TunedState, tuned_after, lines_after, line_after, kept_line, line_fresh, line_from, tuned_from, fresh_tuned, with_first, slot_in_line}
-use Rattle.module_cache.specs.Joining.{slot_from, CacheState, Outline, outline, outline_held, lists, is_there, may_join, AreApart, AreOnce, AreDistinct, numbers, without, IsHeld, joining, joined, turned, has_line, offered, is_any}
+use Rattle.module_cache.specs.Joining.{slot_from, CacheState, Outline, outline, outline_held, lists, is_there, is_apart, AreApart, AreOnce, AreDistinct, joining, joined, turned, has_line, offered, is_any, no_id_twice, is_within}
+use Rattle.module_cache.specs.Inner.Joining.{numbers, without, IsHeld}
 use Rattle.module_cache.specs.Inner.Keeping.{tuned_keeping}
-use Rattle.module_cache.specs.Limits.{no_id_twice, is_within}
 use Rattle.module_cache.specs.Slots.{Unlisted}
 use Rattle.module_cache.specs.Spans.{identification, same_line}
 use Rattle.module_cache.specs.declared.stored.Line.{Line}
@@ -101,7 +101,8 @@ outlines_joined c d = map-append outline_held c.held (joining c.waiting d ∷ []
 numbers_joined : (c : CacheState) (d : DiiFields) → numbers (joined c d).held ≡ numbers c.held ++ identification d ∷ []
 numbers_joined c d = map-append (λ t. t.identification) c.held (joining c.waiting d ∷ []) ∙ ap (λ o. numbers c.held ++ o.identification ∷ []) (outline_joining c.waiting d)
 
-pub held_joined : (c : CacheState) (d : DiiFields) → IsHeld c → is_within d ≡ true → may_join (map outline_held c.held) d ≡ true → IsHeld (joined c d)
+pub held_joined : (c : CacheState) (d : DiiFields) → IsHeld c → is_within d ≡ true
+    → (not (is_there (map outline_held c.held) d) && is_apart (map outline_held c.held) d) ≡ true → IsHeld (joined c d)
 held_joined c d h within may =
     let parts = and_parts _ _ may in
     let other : is_there (map outline_held c.held) d ≡ false = not-true _ parts.0 in

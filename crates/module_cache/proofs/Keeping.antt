@@ -8,7 +8,7 @@ use Rattle.ddb_block.specs.Blocks as ddb
 use Rattle.module_cache.specs.Contents.{StoredState, fresh_content, stored_after}
 use Rattle.module_cache.specs.Held.{TunedState, with_first, kept_line, line_fresh, line_after, lines_after, fresh_tuned, tuned_with, tuned_from}
 use Rattle.module_cache.specs.Inner.Keeping.{line_keeping, lines_keeping, tuned_keeping}
-use Rattle.module_cache.specs.Limits.{no_id_twice, is_within}
+use Rattle.module_cache.specs.Joining.{no_id_twice, is_within}
 use Rattle.module_cache.specs.Spans.{same_line}
 use Rattle.module_cache.specs.declared.stored.Line.{Line}
 use Rattle.module_cache.proofs.Contents.{turned_round}

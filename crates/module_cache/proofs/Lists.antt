@@ -4,8 +4,8 @@ use Rattle.std.proofs.Math.ListN.{set}
 use Rattle.std.proofs.lemmas.Bool.{cond-true, cond-false, or_parts}
 use Rattle.std.proofs.lemmas.Option.{same_Some}
 use Rattle.std.specs.List.{filter, filter_map, find, list_any, range_with_len, cons_option}
-use Rattle.std.specs.Option.{option_map}
-use Rattle.block_assembler.specs.Blocks.{Bytes, first_of, join_all, onto_all}
+use Rattle.std.specs.Option.{option_map, option_zip}
+use Rattle.block_assembler.specs.Blocks.{Bytes, first_of, join_all}
 
 -- ---- functions that are alike
 
@@ -173,6 +173,6 @@ all_there (Some x ∷ xs) bytes (suc i) e h n = rest (join_all xs) refl (λ b f.
   rest : (o : Option Bytes) → join_all xs ≡ o → ((b : Bytes) → join_all xs ≡ Some b → ⊥) → ⊥
   rest (Some b) f g = g b f
   rest None f g = nothing (join_all xs) f e where
-    nothing : (o : Option Bytes) → o ≡ None → onto_all (Some x) o ≡ Some bytes → ⊥
+    nothing : (o : Option Bytes) → o ≡ None → option_map (λ (p : Bytes × Bytes). p.0 ++ p.1) (option_zip (Some x) o) ≡ Some bytes → ⊥
     nothing None f e = cc
     nothing (Some b) f e = cc

@@ -5,7 +5,7 @@ use Rattle.std.proofs.Math.ListN.{set}
 use Rattle.std.proofs.lemmas.List.{set-set, set-get_or, length-set, length-replicate, get_or-set_same}
 use Rattle.std.proofs.lemmas.Bool.{ltb-true}
 use Rattle.block_assembler.specs.Blocks.{AssemblerState, Bytes, offer_of, after_offer, after_forget, block_in, empty_of, is_new, join_all}
-use Rattle.module_cache.specs.StoredView.{IsShaped}
+use Rattle.module_cache.specs.Inner.StoredView.{IsShaped}
 use Rattle.module_cache.specs.Contents.{Blocks, Whole, content_of, whole_or}
 use Rattle.block_assembler.specs.declared.Offer.TheVariants.{WrongPlace, WrongLength, Again, New}
 use Rattle.ddb_block.specs.Blocks.{block_count_of}

@@ -2,7 +2,7 @@
 use Rattle.std.proofs.Common.{ℕ, ◌≡◌, Bool, true, false, ◌&&◌, ◌||◌, eqb, nat_le, List, [], ◌∷◌, map, refl, sym, ap, ◌∙◌}
 use Rattle.std.specs.List.{list_all, list_any}
 use Rattle.std.proofs.lemmas.Bool.{eqb-true, and_parts}
-use Rattle.module_cache.specs.Reaches.{is_within}
+use Rattle.module_cache.specs.Inner.Reaches.{is_within}
 use Rattle.module_cache.specs.declared.reach.Reach.{Reach}
 use Rattle.module_cache.specs.declared.stored.Line.{Line}
 

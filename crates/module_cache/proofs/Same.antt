@@ -1,15 +1,16 @@
 -- Two DIIs that describe a module in the same way.
-use Rattle.std.proofs.Common.{◌≡◌, ℕ, Bool, true, false, ◌&&◌, eqb, List, [], ◌∷◌, Option, Some, None, refl, ◌∙◌, ap}
+use Rattle.std.proofs.Common.{◌≡◌, ℕ, Bool, true, false, not, cond, ◌&&◌, eqb, List, [], ◌∷◌, Option, Some, None, refl, ◌∙◌, ap}
 use Rattle.std.specs.List.{range_with_len}
 use Rattle.std.proofs.lemmas.Bool.{and_parts, eqb-true}
 use Rattle.ddb_block.specs.Blocks as ddb
-use Rattle.block_assembler.specs.Blocks.{first_of}
+use Rattle.std.specs.Option.{option_and_then}
+use Rattle.block_assembler.specs.Blocks.{Bytes, first_of}
 use Rattle.dsi_dii.specs.Controls.{DiiFields}
 use Rattle.dsi_dii.specs.declared.ModuleLine.{ModuleLine}
 use Rattle.module_cache.specs.Contents.{content_of}
 use Rattle.module_cache.specs.Held.{content_among}
-use Rattle.module_cache.specs.LookBack.{bytes_if_fits, block_among, blocks_among}
-use Rattle.module_cache.specs.Spans.{Span, agrees, earlier, same_flag, same_line}
+use Rattle.module_cache.specs.Turns.{fits, block_among, blocks_among}
+use Rattle.module_cache.specs.Spans.{Span, agrees, earlier, same_line}
 use Rattle.module_cache.proofs.Lists.{map_like, filter_map_like}
 
 pub record SameLine (d e : DiiFields) (l k : ModuleLine) : Type 0 where
@@ -27,6 +28,10 @@ pub earlier_same : {H : Type 0} (d e : DiiFields) (l k : ModuleLine) → SameLin
 earlier_same d e l k same kept [] = refl
 earlier_same d e l k same kept (s ∷ ss) = rw (agrees_same d e l k s.dii same, earlier_same d e l k same s.kept ss) refl
 
+-- the bytes of a block that fits
+abbrev pub bytes_if_fits : DiiFields → ModuleLine → ℕ → Option ddb.Block → Option Bytes
+bytes_if_fits d l b o = option_and_then (λ (x : ddb.Block). cond (fits d l b x) (Some x.bytes) None) o
+
 fitting_same : (d e : DiiFields) (l k : ModuleLine) (b : ℕ) → SameLine d e l k → (o : Option ddb.Block) → bytes_if_fits d l b o ≡ bytes_if_fits e k b o
 fitting_same d e l k b s (Some x) = rw (s.download, s.block_size, s.id, s.size, s.version) refl
 fitting_same d e l k b s None = refl
@@ -41,7 +46,7 @@ pub content_same : {H : Type 0} (says : H → Option ddb.Block) (since : List H)
 content_same says since d e l k s true = refl
 content_same says since d e l k s false = ap content_of (blocks_same says since d e l k s)
 
-alike : (a b : Bool) → same_flag a b ≡ true → a ≡ b
+alike : (a b : Bool) → cond a b (not b) ≡ true → a ≡ b
 alike true true e = refl
 alike true false e = cc
 alike false true e = cc

@@ -1,22 +1,20 @@
 -- One held DII, looking back over spans: with something more heard in the newest, and with one span more.
 use Rattle.std.proofs.Common.{ℕ, ◌≡◌, Bool, true, false, cond, eqb, ◌&&◌, inl, List, [], ◌∷◌, ◌++◌, map, Option, Some, None, refl, sym, ap, ◌∙◌, append_assoc, append-nil}
 use Rattle.std.specs.List.{find}
-use Rattle.std.specs.Option.{option_map}
+use Rattle.std.specs.Option.{option_map, option_map_or}
 use Rattle.std.proofs.lemmas.Bool.{cond-true, cond-false}
 use Rattle.ddb_block.specs.Blocks as ddb
 use Rattle.dsi_dii.specs.Controls.{DiiFields}
 use Rattle.dsi_dii.specs.declared.ModuleLine.{ModuleLine}
 use Rattle.module_cache.specs.Contents.{Content}
 use Rattle.module_cache.specs.Held.{TunedState, line_among, line_fresh, tuned_with, tuned_after, fresh_tuned, kept_line, line_from, tuned_from, content_among}
-use Rattle.module_cache.specs.Joining.{tuned_of}
-use Rattle.module_cache.specs.Limits.{no_id_twice}
-use Rattle.module_cache.specs.LookBack.{bytes_if_fits}
-use Rattle.module_cache.specs.Spans.{Span, earlier, stretch, same_line, same_line_in}
+use Rattle.module_cache.specs.Joining.{tuned_of, no_id_twice}
 use Rattle.module_cache.specs.Turns.{heard_by}
+use Rattle.module_cache.specs.Spans.{Span, earlier, stretch, same_line}
 use Rattle.module_cache.specs.declared.stored.Line.{Line}
 use Rattle.module_cache.proofs.Contents.{lines_move, unfit_line, passed_line, fresh_line, turned_round}
 use Rattle.module_cache.proofs.Lists.{map_like, find_map, found_passes}
-use Rattle.module_cache.proofs.Same.{SameLine, same_line_is, content_same, earlier_same}
+use Rattle.module_cache.proofs.Same.{SameLine, bytes_if_fits, same_line_is, content_same, earlier_same}
 
 -- ---- something more
 
@@ -74,7 +72,7 @@ with_nothing_more says hs d l = ap (λ xs. line_among says xs d l) (sym (append-
 kept_lines : {H : Type 0} (says : H → Option ddb.Block) (s : Span H) (ss : List (Span H)) (d : DiiFields) (l : ModuleLine) (messages : Bool) (o : Option ModuleLine)
     → find (λ k. eqb k.id l.id) s.dii.modules ≡ o → (eqb s.dii.download d.download && eqb s.dii.block_size d.block_size) ≡ messages
     → cond messages (kept_line d.block_size l (option_map (line_in says s ss) o)) (line_fresh d.block_size l)
-    ≡ line_among says (cond (messages && same_line_in o l) (earlier d l s.kept ss ++ s.since) [] ++ []) d l
+    ≡ line_among says (cond (messages && option_map_or (λ k. same_line k l) o false) (earlier d l s.kept ss ++ s.since) [] ++ []) d l
 unfolding line_in slot_line
 kept_lines says s ss d l false o e f = fresh_line says d l
 kept_lines says s ss d l true None e f = fresh_line says d l

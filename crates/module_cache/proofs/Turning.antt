@@ -1,7 +1,7 @@
 -- One call more: the state is that of the turns with it.
 use Rattle.std.proofs.Common.{ℕ, ◌≡◌, Bool, true, false, cond, not, eqb, ◌&&◌, ◌||◌, List, [], ◌∷◌, ◌++◌, map, Option, Some, None, refl, sym, ap, subst, ◌∙◌}
 use Rattle.std.specs.List.{filter, find, list_any}
-use Rattle.std.specs.Option.{option_map}
+use Rattle.std.specs.Option.{option_map, option_map_or}
 use Rattle.std.proofs.lemmas.Bool.{cond-true, cond-false, eqb-true, or_parts}
 use Rattle.std.proofs.lemmas.List.{map-append}
 use Rattle.std.proofs.lemmas.List.Folds.{list_any-append}
@@ -11,7 +11,7 @@ use Rattle.dsi_dii.specs.declared.ModuleLine.{ModuleLine}
 use Rattle.module_cache.specs.Held.{TunedState, tuned_after, lines_after, line_among, tuned_from, with_first}
 use Rattle.module_cache.specs.Joining.{CacheState, Outline, outline, outline_held, lists, AreApart, AreOnce, joining, joined, turned, has_line, offered, tuned_of, held_in, still_waits, waiting_in, state_in}
 use Rattle.module_cache.specs.Spans.{Span, identification, stretch}
-use Rattle.module_cache.specs.Turns.{Turn, admitted, newest, has_admitted, heard_by, continued, with_turning, with_joined, onto_chain, chain, before}
+use Rattle.module_cache.specs.Turns.{Turn, admitted, newest, has_admitted, heard_by, continued, with_turning, with_joined, chain, before}
 use Rattle.module_cache.specs.declared.stored.Line.{Line}
 use Rattle.module_cache.proofs.Lists.{map_like, filter_like, any_map, map_map, map_back, find_map, found_passes, filter_both, find_filter}
 use Rattle.module_cache.proofs.Places.{none_changed}
@@ -133,7 +133,7 @@ chain_held says i [] = refl
 chain_held {H} says i (t ∷ ts) =
     go (find (λ s. eqb (identification s.dii) i) (admitted t)) refl ∙ sym (find_map (λ s. tuned_of says s (before s ts)) (λ u. eqb u.identification i) (admitted t)) where
       go : (o : Option (Span H)) → find (λ s. eqb (identification s.dii) i) (admitted t) ≡ o
-          → tuned_in says (onto_chain o (chain i ts)) ≡ option_map (λ s. tuned_of says s (before s ts)) o
+          → tuned_in says (option_map_or (λ s. s ∷ chain i ts) o []) ≡ option_map (λ s. tuned_of says s (before s ts)) o
       go None e = refl
       go (Some s) e = ap (λ k. Some (tuned_of says s (chain k ts))) (sym (eqb-true _ _ (found_passes (λ x. eqb (identification x.dii) i) (admitted t) s e)))
 

@@ -4,7 +4,7 @@ use Rattle.std.specs.List.{find}
 use Rattle.ddb_block.specs.Blocks as ddb
 use Rattle.dsi_dii.specs.Controls.{DiiFields}
 use Rattle.dsi_dii.specs.declared.ModuleLine.{ModuleLine}
-use Rattle.module_cache.specs.LookBack.{block_among, module_among}
+use Rattle.module_cache.specs.Turns.{block_among, module_among}
 use Rattle.module_cache.specs.Slots.{SlotState, Unlisted, Compressed, whole_or_part}
 use Rattle.module_cache.specs.Spans.{Span, stretch}
 use Rattle.module_cache.specs.declared.taken.Taken.{Taken}

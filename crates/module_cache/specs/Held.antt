@@ -6,7 +6,7 @@ use Rattle.ddb_block.specs.Blocks as ddb
 use Rattle.dsi_dii.specs.Controls.{DiiFields, version_of, identification_of}
 use Rattle.dsi_dii.specs.declared.ModuleLine.{ModuleLine}
 use Rattle.module_cache.specs.Contents.{Content, Packed, content_of, taken_in, stored_after, fresh_content}
-use Rattle.module_cache.specs.LookBack.{blocks_among}
+use Rattle.module_cache.specs.Turns.{blocks_among}
 use Rattle.module_cache.specs.Slots.{SlotState, Unlisted, slot_of}
 use Rattle.module_cache.specs.Spans.{same_line}
 use Rattle.module_cache.specs.declared.stored.Line.{Line}

@@ -1,19 +1,38 @@
 -- The DIIs that are held, with what is there of their modules, and what waits for a DII of its identification: what one block and
 -- one DII make of it, and what it is looking back.
-use Rattle.std.specs.Prelude.{◌≡◌, ℕ, ◌+◌, ◌-◌, nat_le, Bool, true, false, not, ◌&&◌, List, [], ◌∷◌, ◌++◌, map, Option, Some, None, ◌==◌, if◌then◌else◌}
-use Rattle.std.specs.List.{filter, find, list_any, flat_map, sum_by}
-use Rattle.ddb_block.specs.Blocks as ddb
+use Rattle.std.specs.Prelude.{◌≡◌, ℕ, ◌+◌, nat_le, Bool, true, false, not, ◌&&◌, List, [], ◌∷◌, ◌++◌, map, Option, Some, None, ◌==◌, if◌then◌else◌}
+use Rattle.std.specs.List.{filter, find, list_any, flat_map, sum_by, list_all}
 use Rattle.dsi_dii.specs.Controls.{DiiFields}
 use Rattle.dsi_dii.specs.declared.ModuleLine.{ModuleLine}
 use Rattle.dsi_dii.specs.declared.TheConstants.{MOST_TOTAL_SIZE}
-use Rattle.module_cache.specs.Chains as chains
 use Rattle.module_cache.specs.Held.{TunedState, tuned_with, tuned_after, taken_tuned, line_among, tuned_from, with_first, slot_in_line}
-use Rattle.module_cache.specs.Limits.{no_id_twice}
 use Rattle.module_cache.specs.Slots.{SlotState, Unlisted}
 use Rattle.module_cache.specs.Spans.{Span, version, identification, stretch}
 use Rattle.module_cache.specs.Turns.{Turn, admitted, has_admitted, before}
 use Rattle.module_cache.specs.declared.taken.Taken.{Taken}
+use Rattle.ddb_block.specs.declared.TheConstants.{MOST_BLOCK_SIZE, MOST_BLOCKS}
+use Rattle.block_assembler.specs.declared.TheConstants.{MOST_MODULE_SIZE}
+use Rattle.ddb_block.specs.Blocks as ddb
+use Rattle.module_cache.specs.Chains as chains
 use Rattle.module_cache.specs.declared.taken.Taken.TheVariants as taken
+
+-- ---- The limits of a receiver, which are this project's own.
+
+abbrev pub no_id_twice : List ModuleLine → Bool
+no_id_twice [] = true
+no_id_twice (l ∷ ls) = not (list_any (λ k. k.id == l.id) ls) && no_id_twice ls
+
+-- a module that can be put together of blocks of this size
+abbrev pub is_small : ℕ → ModuleLine → Bool
+is_small block_size l = nat_le l.size MOST_MODULE_SIZE && nat_le (ddb.block_count_of l.size block_size) MOST_BLOCKS
+
+-- a DII whose modules can be received
+abbrev pub is_within : DiiFields → Bool
+is_within d =
+    (nat_le 1 d.block_size && nat_le d.block_size MOST_BLOCK_SIZE) && list_all (is_small d.block_size) d.modules
+    && nat_le (sum_by (λ l. l.size) d.modules) MOST_TOTAL_SIZE && no_id_twice d.modules
+
+-- ---- what is held
 
 -- the held DIIs in the order of admission, and those whose modules wait
 pub record CacheState : Type 0 where
@@ -47,20 +66,11 @@ is_there os d = list_any (λ o. o.identification == identification d) os
 abbrev pub is_apart : List Outline → DiiFields → Bool
 is_apart os d = not (list_any (λ l. list_any (λ o. lists o l.id) os) d.modules)
 
--- the DII may be held beside these
-abbrev pub may_join : List Outline → DiiFields → Bool
-may_join os d = not (is_there os d) && is_apart os d
-
-abbrev pub size_of : List ModuleLine → ℕ
-size_of ls = sum_by (λ l. l.size) ls
-
 -- the modules of all of them fit into what a receiver holds
 abbrev pub fits_beside : List Outline → DiiFields → Bool
-fits_beside os d = nat_le (sum_by (λ o. size_of o.modules) os + size_of d.modules) MOST_TOTAL_SIZE
-
--- what is left of so much, where it is enough
-abbrev pub left_of : ℕ → ℕ → Option ℕ
-left_of most n = if nat_le n most then Some (most - n) else None
+fits_beside os d =
+    nat_le (sum_by (λ o. sum_by (λ l. l.size) o.modules) os + sum_by (λ l. l.size) d.modules)
+    MOST_TOTAL_SIZE
 
 -- no module is listed twice, by one of these or by two
 abbrev pub AreApart : List Outline → Type 0
@@ -173,17 +183,3 @@ slot_among says (t ∷ ts) id = slot_by says ts id (find (λ s. lists (outline s
 abbrev pub AreDistinct : List ℕ → Type 0
 AreDistinct [] = Unit {0}
 AreDistinct (n ∷ ns) = (list_any (λ k. k == n) ns ≡ false) × AreDistinct ns
-
-abbrev pub numbers : List TunedState → List ℕ
-numbers ts = map (λ t. t.identification) ts
-
--- the first of this identification is taken out
-abbrev pub without : ℕ → List TunedState → List TunedState
-without i [] = []
-without i (t ∷ ts) = if t.identification == i then ts else t ∷ without i ts
-
-pub record IsHeld (c : CacheState) : Type 0 where
-  pub once : AreOnce (map outline_held c.held)
-  pub apart : AreApart (map outline_held c.held)
-  pub distinct : AreDistinct (numbers c.held)
-  pub waiting : AreDistinct (numbers c.waiting)

@@ -1,15 +1,12 @@
-pub mod Limits
 pub mod Contents
 pub mod StoredView
 pub mod Slots
-pub mod LookBack
 pub mod Spans
 pub mod Held
 pub mod Chains
 pub mod Turns
 pub mod Joining
 pub mod Calls
-pub mod Reaches
 pub mod TunedView
 pub mod CacheView
 pub mod Inner

@@ -3,7 +3,8 @@
 -- A DII that is held from now on opens a span, which goes on up to the turn in which another takes its place. What is there of a
 -- module was heard in its stretch: in the newest span, and in the spans right before it in which the module was described in the
 -- same way, as long as each turn kept what was there. Newer spans stand first. `H` is what is heard.
-use Rattle.std.specs.Prelude.{ℕ, Bool, true, false, not, ◌&&◌, List, [], ◌∷◌, ◌++◌, Option, Some, None, ◌==◌, if◌then◌else◌}
+use Rattle.std.specs.Prelude.{ℕ, Bool, false, not, ◌&&◌, List, [], ◌∷◌, ◌++◌, ◌==◌, if◌then◌else◌}
+use Rattle.std.specs.Option.{option_map_or}
 use Rattle.std.specs.List.{find}
 use Rattle.dsi_dii.specs.Controls.{DiiFields, version_of, identification_of}
 use Rattle.dsi_dii.specs.declared.ModuleLine.{ModuleLine}
@@ -22,21 +23,17 @@ identification d = identification_of d.transaction
 
 -- ---- a module's stretch
 
-abbrev pub same_flag : Bool → Bool → Bool
-same_flag true c = c
-same_flag false c = not c
-
 -- two lines describe a module in the same way
 abbrev pub same_line : ModuleLine → ModuleLine → Bool
-same_line a b = (a.size == b.size) && (a.version == b.version) && same_flag a.compressed b.compressed
-
-abbrev pub same_line_in : Option ModuleLine → ModuleLine → Bool
-same_line_in (Some a) b = same_line a b
-same_line_in None b = false
+same_line a b =
+    (a.size == b.size) && (a.version == b.version)
+    && (if a.compressed then b.compressed else not b.compressed)
 
 -- the DII describes a module as the held one does
 abbrev pub agrees : DiiFields → DiiFields → ModuleLine → Bool
-agrees d held l = (d.download == held.download) && (d.block_size == held.block_size) && same_line_in (find (λ k. k.id == l.id) d.modules) l
+agrees d held l =
+    (d.download == held.download) && (d.block_size == held.block_size)
+    && option_map_or (λ k. same_line k l) (find (λ k. k.id == l.id) d.modules) false
 
 -- what was heard in the earlier spans of the stretch; `kept` says whether the next one kept what was there
 abbrev pub earlier : {H : Type 0} → DiiFields → ModuleLine → Bool → List (Span H) → List H

@@ -4,10 +4,15 @@
 -- that turns. What is there of a module was heard in its stretch, along the DIIs of one identification: in the span of the DII that
 -- lists it now, and in those of the turns right before in which a DII of the same identification described it in the same way, as
 -- long as each turn kept what was there. `H` is what is heard.
-use Rattle.std.specs.Prelude.{ℕ, Bool, false, List, [], ◌∷◌, ◌++◌, map, Option, Some, None, ◌==◌}
-use Rattle.std.specs.List.{find, list_any}
+use Rattle.std.specs.Prelude.{ℕ, Bool, false, List, [], ◌∷◌, ◌++◌, map, Option, Some, None, ◌==◌, ◌&&◌, length, nat_lt, if◌then◌else◌}
+use Rattle.std.specs.List.{find, list_any, filter_map, range_with_len}
+use Rattle.std.specs.Option.{option_map_or, option_and_then}
 use Rattle.dsi_dii.specs.Controls.{DiiFields}
 use Rattle.module_cache.specs.Spans.{Span, identification}
+use Rattle.path_tree.specs.Paths.{Bytes}
+use Rattle.block_assembler.specs.Blocks.{first_of, join_all}
+use Rattle.dsi_dii.specs.declared.ModuleLine.{ModuleLine}
+use Rattle.ddb_block.specs.Blocks as ddb
 
 -- the DII that turned and those that joined it, each with what was heard after it up to the next turn
 pub record Turn (H : Type 0) : Type 0 where
@@ -45,15 +50,34 @@ with_joined (t ∷ ts) d = record { turning = t.turning; joined = t.joined ++ re
 
 -- ---- the DIIs of one identification
 
-abbrev pub onto_chain : {H : Type 0} → Option (Span H) → List (Span H) → List (Span H)
-onto_chain (Some s) ss = s ∷ ss
-onto_chain None ss = []
-
 -- from turn to turn, the newest first, up to the first turn in which none of it was admitted
 abbrev pub chain : {H : Type 0} → ℕ → List (Turn H) → List (Span H)
 chain i [] = []
-chain i (t ∷ ts) = onto_chain (find (λ s. identification s.dii == i) (admitted t)) (chain i ts)
+chain i (t ∷ ts) =
+    option_map_or (λ s. s ∷ chain i ts) (find (λ s. identification s.dii == i) (admitted t)) []
 
 -- the DIIs of this one's identification in the turns before it
 abbrev pub before : {H : Type 0} → Span H → List (Turn H) → List (Span H)
 before s ts = chain (identification s.dii) ts
+
+-- ---- What is there of a module, looking back over what was heard since its blocks counted. `H` is what is heard, and `says` gives the
+-- block in it, if it is one.
+
+-- a block of this number of a module that the DII lists
+abbrev pub fits : DiiFields → ModuleLine → ℕ → ddb.Block → Bool
+fits held l b x =
+    (x.download == held.download) && (x.module_id == l.id) && (x.version == l.version) && (x.number == b)
+    && nat_lt b (ddb.block_count_of l.size held.block_size) && (length x.bytes == ddb.block_span_of l.size held.block_size b)
+
+-- the bytes of the first such block
+abbrev pub block_among : {H : Type 0} → (H → Option ddb.Block) → List H → DiiFields → ModuleLine → ℕ → Option Bytes
+block_among says since held l b =
+    first_of (filter_map (λ h. option_and_then (λ x. if fits held l b x then Some x.bytes else None)
+    (says h)) since)
+
+abbrev pub blocks_among : {H : Type 0} → (H → Option ddb.Block) → List H → DiiFields → ModuleLine → List (Option Bytes)
+blocks_among says since held l = map (block_among says since held l) (range_with_len 0 (ddb.block_count_of l.size held.block_size))
+
+-- a module's bytes, where it isn't compressed and each of its blocks is there
+abbrev pub module_among : {H : Type 0} → (H → Option ddb.Block) → List H → DiiFields → ModuleLine → Option Bytes
+module_among says since held l = if l.compressed then None else join_all (blocks_among says since held l)

@@ -4,7 +4,8 @@ ghost use Rattle.std.specs.Prelude.{◌≡◌, ◌==◌, map};
 ghost use Rattle.std.specs.List.{list_any, sum_by};
 ghost use Rattle.dsi_dii.specs.Controls.{view_dii};
 ghost use Rattle.module_cache.specs.Joining as joining;
-ghost use Rattle.module_cache.specs.Joining.{outline_held, is_there, left_of};
+ghost use Rattle.module_cache.specs.Joining.{outline_held, is_there};
+ghost use Rattle.module_cache.specs.Inner.Joining.{left_of};
 ghost use Rattle.dsi_dii.specs.declared.TheConstants.{MOST_TOTAL_SIZE};
 
 use crate::limits::fit_into;

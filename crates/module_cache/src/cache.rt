@@ -1,11 +1,11 @@
-ghost use Rattle.std.specs.Prelude.{◌≡◌, ◌≢◌, ◌++◌, ◌∷◌, ◌==◌, if◌then◌else◌, [], List, map, true, IsTrue, IfOk, OnOk, OnErr};
+ghost use Rattle.std.specs.Prelude.{◌≡◌, ◌≢◌, ◌++◌, ◌∷◌, ◌==◌, ◌&&◌, not, if◌then◌else◌, [], List, map, true, IsTrue, IfOk, OnOk, OnErr};
 ghost use Rattle.std.specs.List.{position, list_any};
 ghost use Rattle.ddb_block.specs.Blocks.{parts_view, view};
 ghost use Rattle.dsi_dii.specs.Controls.{DiiFields, view_dii};
-ghost use Rattle.module_cache.specs.Limits as limits;
-ghost use Rattle.module_cache.specs.Limits.{no_id_twice};
+ghost use Rattle.module_cache.specs.Joining as limits;
+ghost use Rattle.module_cache.specs.Joining.{no_id_twice, empty, joining, joined, turned, outline_held, is_there, is_apart, has_line, taken_held, taken_of, taken_among, offered_held, offered, slot_from, slot_at, slot_among};
 ghost use Rattle.module_cache.specs.Held.{fresh_tuned};
-ghost use Rattle.module_cache.specs.Joining.{empty, joining, joined, turned, without, may_join, outline_held, has_line, taken_held, taken_of, taken_among, offered_held, offered, slot_from, slot_at, slot_among};
+ghost use Rattle.module_cache.specs.Inner.Joining.{without};
 ghost use Rattle.module_cache.specs.Calls.{Call, Turned, Joined, Offered, StandsFor, turns_of, itself};
 ghost use Rattle.module_cache.specs.Slots.{view_slot};
 
@@ -37,7 +37,8 @@ impl Model for Cache {
 
     ghost Value = { CacheState };
 
-    ghost use Rattle.module_cache.specs.CacheView.{view_cache, IsCache};
+    ghost use Rattle.module_cache.specs.CacheView.{view_cache};
+    ghost use Rattle.module_cache.specs.Inner.CacheView.{IsCache};
 
     ghost view = { view_cache };
 
@@ -172,7 +173,9 @@ impl Cache {
     /// leaves the cache as it was. (What stays is this project's own rule.)
     pub fn join(&mut self, dii: &Dii) -> Result<(), NoMemory>
         requires within { IsTrue (limits.is_within (view_dii dii.now)) }
-        requires may_join { IsTrue (may_join (map outline_held self.now.held) (view_dii dii.now)) }
+        requires may_join { IsTrue (
+            not (is_there (map outline_held self.now.held) (view_dii dii.now))
+            && is_apart (map outline_held self.now.held) (view_dii dii.now)) }
         ensures ok { OnOk result (self.new ≡ joined self.old (view_dii dii.now)) }
         ensures stands { OnOk result ((calls : List Call)
             → StandsFor self.old calls

@@ -3,7 +3,7 @@
 ghost use Rattle.std.specs.Prelude.{◌≡◌, ◌==◌, ◌≤◌, nat_le};
 ghost use Rattle.dsi_dii.specs.Controls.{view_dii};
 ghost use Rattle.std.specs.List.{list_all, list_any, sum_by};
-ghost use Rattle.module_cache.specs.Limits as limits;
+ghost use Rattle.module_cache.specs.Joining as limits;
 
 use block_assembler::MOST_MODULE_SIZE;
 use ddb_block::{MOST_BLOCK_SIZE, MOST_BLOCKS, block_count};

@@ -2,7 +2,7 @@
 
 ghost use Rattle.std.specs.Prelude.{◌≡◌, ◌&&◌, nat_le, true, IfSome};
 ghost use Rattle.std.specs.List.{list_all};
-ghost use Rattle.module_cache.specs.Reaches.{is_within};
+ghost use Rattle.module_cache.specs.Inner.Reaches.{is_within};
 
 use dsi_dii::ModuleLine;
 

@@ -6,7 +6,8 @@ ghost use Rattle.block_assembler.specs.Blocks.{IsAssembled};
 ghost use Rattle.module_cache.specs.Contents.{taken_again, taken_at, taken_in, stored_after, content_after, fresh_content, has_block, Blocks};
 ghost use Rattle.ddb_block.specs.Blocks.{block_count_of};
 ghost use Rattle.ddb_block.specs.declared.TheConstants.{MOST_BLOCKS};
-ghost use Rattle.module_cache.specs.StoredView.{view_state, IsShaped, IsState};
+ghost use Rattle.module_cache.specs.StoredView.{view_state};
+ghost use Rattle.module_cache.specs.Inner.StoredView.{IsShaped, IsState};
 ghost use Rattle.module_cache.specs.Contents as contents;
 ghost use Rattle.module_cache.specs.Slots.{view_slot, slot_of};
 
@@ -45,7 +46,8 @@ impl Model for Stored {
 
     ghost Value = { StoredState };
 
-    ghost use Rattle.module_cache.specs.StoredView.{view_stored, IsStored};
+    ghost use Rattle.module_cache.specs.StoredView.{view_stored};
+    ghost use Rattle.module_cache.specs.Inner.StoredView.{IsStored};
 
     ghost view = { view_stored };
 

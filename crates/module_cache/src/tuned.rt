@@ -2,13 +2,13 @@
 
 ghost use Rattle.std.specs.Prelude.{◌≡◌, ◌≢◌, ◌≤◌, ◌<◌, ◌==◌, [], map, true, IsTrue, Some, IfOk, OnOk, OnErr};
 ghost use Rattle.std.specs.List.{find, fold, position, list_all, list_any};
-ghost use Rattle.module_cache.specs.Joining.{has_line};
+ghost use Rattle.module_cache.specs.Joining.{has_line, no_id_twice};
 ghost use Rattle.std.specs.Option.{option_map};
+ghost use Rattle.oc_bytes.specs.Outcome.{MakesList};
 ghost use Rattle.block_assembler.specs.Blocks.{IsAssembled};
 ghost use Rattle.ddb_block.specs.Blocks.{parts_view};
 ghost use Rattle.dsi_dii.specs.Controls.{view_dii};
-ghost use Rattle.module_cache.specs.Limits as limits;
-ghost use Rattle.module_cache.specs.Limits.{no_id_twice};
+ghost use Rattle.module_cache.specs.Joining as limits;
 ghost use Rattle.module_cache.specs.Inner.Keeping.{line_keeping, lines_keeping, tuned_keeping};
 ghost use Rattle.module_cache.specs.Spans.{same_line};
 ghost use Rattle.module_cache.specs.Held.{line_fresh, fresh_tuned, taken_line, taken_tuned, line_after, lines_after, tuned_after};
@@ -40,7 +40,8 @@ impl Model for Tuned {
 
     ghost Value = { TunedState };
 
-    ghost use Rattle.module_cache.specs.TunedView.{view_tuned, IsTuned};
+    ghost use Rattle.module_cache.specs.TunedView.{view_tuned};
+    ghost use Rattle.module_cache.specs.Inner.TunedView.{IsTuned};
 
     ghost view = { view_tuned };
 
@@ -141,7 +142,7 @@ fn line_of(alloc: Global, block_size: u16, line: ModuleLine) -> Result<Line, NoM
 fn lines_of(alloc: Global, block_size: u16, modules: &[ModuleLine]) -> Result<Vec<Line>, NoMemory>
     requires blocks { (1 ≤ block_size) × (block_size ≤ MOST_BLOCK_SIZE) }
     requires small { IsTrue (list_all (limits.is_small block_size) modules.now) }
-    ensures ok { IfOk result (λ v. v.items ≡ map (line_fresh block_size) modules.now) }
+    ensures ok { MakesList result (map (line_fresh block_size) modules.now) }
     ensures memory { OnErr result (modules.now ≢ []) }
 {
     let mut lines = Vec::with_capacity(alloc, modules.len())?;

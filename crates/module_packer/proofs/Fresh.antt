@@ -9,7 +9,8 @@ use Rattle.std.proofs.lemmas.Bool.{cases_eq, eq-eqb, ne_eqb, ltb-true, ltb-false
 use Rattle.module_packer.specs.declared.packing.Shared.{Shared}
 use Rattle.module_packer.specs.declared.packing.Packing.{Packing}
 use Rattle.module_packer.specs.declared.packing.TheConstants.{ROOM}
-use Rattle.module_packer.specs.Placement.{none_opened, place_next, fits_shared, shared_number, shared_sum, fresh_from, fresh, modules_needed, IsSound, sum_in, FreshIsAPlacement}
+use Rattle.module_packer.specs.Placement.{none_opened, place_next, fits_shared, shared_number, shared_sum, fresh_from, fresh, modules_needed, sum_in, FreshIsAPlacement}
+use Rattle.module_packer.specs.Inner.Placement.{IsSound}
 
 -- ---- one object more: the three ways that it may go
 

@@ -7,7 +7,7 @@ use Rattle.std.proofs.lemmas.List.Elements.{All-push, All-take, All-drop}
 use Rattle.std.proofs.lemmas.Bool.Decides.{nat_tests}
 use Rattle.module_groups.specs.declared.TheConstants.{GREATEST_ID}
 use Rattle.module_packer.specs.Kept.{Placed, Filled, if_stays, filled_with, first_pass, first_filled, settled_in, filled_after, second_pass, two_passes, within, kept_modules, sizes_in, WereWithin, AreObjects}
-use Rattle.module_packer.specs.Sums.{Tells, sum_at}
+use Rattle.module_packer.specs.Inner.Sums.{Tells, sum_at}
 use Rattle.module_packer.specs.Placement.{fresh, IsPlacement}
 use Rattle.module_packer.proofs.Kept.{old_after, kept_is}
 use Rattle.module_packer.proofs.Telling.{put_told}

@@ -11,7 +11,7 @@ use Rattle.std.proofs.lemmas.Bool.Decides.{nat_tests}
 use Rattle.module_packer.specs.declared.packing.TheConstants.{ROOM}
 use Rattle.module_packer.specs.Placement.{sum_in}
 use Rattle.module_packer.specs.Kept.{Filled, in_use, has_room, stays, if_stays, filled_with, least_with, shared_by, or_new, moved_to, settled_in, filled_after}
-use Rattle.module_packer.specs.Sums.{known_sum, Tells, sum_at, stays_by, takes_more, number_at, shared_of, or_unused, moved_by}
+use Rattle.module_packer.specs.Inner.Sums.{known_sum, Tells, sum_at, stays_by, takes_more, number_at, shared_of, or_unused, moved_by}
 
 -- ---- one module
 

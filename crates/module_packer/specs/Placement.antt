@@ -1,5 +1,5 @@
 -- Which module each object goes to.
-use Rattle.std.specs.Prelude.{◌≡◌, ℕ, ◌+◌, ◌<◌, ◌≤◌, max, Bool, false, List, [], ◌∷◌, length, slice_get, Option, Some, None, MatchOption, ⊤, nat_le, nat_lt, ◌==◌, if◌then◌else◌}
+use Rattle.std.specs.Prelude.{◌≡◌, ℕ, ◌+◌, ◌<◌, ◌≤◌, max, Bool, false, List, [], ◌∷◌, length, slice_get, Option, Some, None, nat_le, nat_lt, ◌==◌, if◌then◌else◌}
 use Rattle.std.specs.List.{All, fold, sum_by, count_by, zip}
 use Rattle.module_packer.specs.declared.packing.TheConstants.{ROOM}
 use Rattle.module_packer.specs.declared.packing.Shared.{Shared}
@@ -40,10 +40,6 @@ fresh sizes = fresh_from none_opened sizes
 -- how many modules the fresh placement opens: its greatest number
 abbrev pub modules_needed : List ℕ → ℕ
 modules_needed sizes = fold max 0 (fresh sizes)
-
--- the module that small objects go to is one of those opened, and isn't overfull
-abbrev pub IsSound : Packing → Type 0
-IsSound s = MatchOption s.shared ⊤ (λ o. (1 ≤ o.number) × (o.number ≤ s.count) × (o.sum ≤ ROOM))
 
 -- ---- what every placement has
 

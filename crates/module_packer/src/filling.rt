@@ -4,7 +4,7 @@ ghost use Rattle.std.specs.Prelude.{◌≡◌, ◌≤◌, ◌<◌, ◌+◌, ◌-
 ghost use Rattle.std.specs.List.{position};
 ghost use Rattle.std.specs.Option.{unwrap_or, is_none};
 ghost use Rattle.module_packer.specs.Kept.{Filled, if_stays, filled_with, settled_in, filled_after};
-ghost use Rattle.module_packer.specs.Sums.{Tells, takes_more as takes, stays_by, sum_at, number_at, shared_of, moved_by};
+ghost use Rattle.module_packer.specs.Inner.Sums.{Tells, takes_more as takes, stays_by, sum_at, number_at, shared_of, moved_by};
 
 use crate::packing::ROOM;
 use module_groups::GREATEST_ID;

@@ -1,9 +1,10 @@
 //! A placement that leaves objects where they were.
 
 ghost use Rattle.std.specs.Prelude.{◌≡◌, ◌∷◌, Some, Option, MatchOption, IfOk, OnOk, false, true};
+ghost use Rattle.oc_bytes.specs.Outcome.{MakesList};
 ghost use Rattle.module_packer.specs.Placement.{IsPlacement, fresh};
 ghost use Rattle.module_packer.specs.Kept.{Filled, AreObjects, kept_modules, sizes_in, first_pass, first_filled, second_pass, within, WereWithin};
-ghost use Rattle.module_packer.specs.Sums.{Tells};
+ghost use Rattle.module_packer.specs.Inner.Sums.{Tells};
 
 use crate::filling::Filling;
 use crate::place_fresh;
@@ -26,7 +27,7 @@ use std::alloc::Global;
 /// a module from 1 to [`GREATEST_ID`] or none. Out of memory is the only refusal. The rule is this project's own.
 pub fn place(alloc: Global, objects: &[(u32, Option<u16>)]) -> Result<Vec<u16>, NoMemory>
     requires { AreObjects GREATEST_ID objects.now }
-    ensures kept { IfOk result (λ ms. ms.items ≡ kept_modules GREATEST_ID objects.now) }
+    ensures kept { MakesList result (kept_modules GREATEST_ID objects.now) }
     ensures fits { IfOk result (λ ms. IsPlacement GREATEST_ID (sizes_in objects.now) ms.items) }
 {
     let mut filling = Filling::new();
@@ -47,7 +48,7 @@ fn stay(
     requires { WereWithin GREATEST_ID objects.now }
     ensures passed { (f : Filled)
         → Tells GREATEST_ID filling.old.sums f
-        → IfOk result (λ v. v.items ≡ first_pass f objects.now) }
+        → MakesList result (first_pass f objects.now) }
     ensures filled { (f : Filled)
         → Tells GREATEST_ID filling.old.sums f
         → OnOk result (Tells GREATEST_ID filling.new.sums (first_filled f objects.now)) }
@@ -89,7 +90,7 @@ fn numbers(
 /// The fresh placement of objects.
 fn afresh(alloc: Global, objects: &[(u32, Option<u16>)]) -> Result<Vec<u16>, NoMemory>
     requires { AreObjects GREATEST_ID objects.now }
-    ensures { IfOk result (λ ms. ms.items ≡ fresh (sizes_in objects.now)) }
+    ensures { MakesList result (fresh (sizes_in objects.now)) }
 {
     let sizes: Vec<u32> = objects.iter().map(|object| object.0).collect(alloc)?;
     place_fresh(alloc, &sizes)

@@ -14,6 +14,7 @@
 #![tactic(auto)]
 
 ghost use Rattle.std.specs.Prelude.{◌≡◌, ◌≤◌, ◌<◌, length, IfOk};
+ghost use Rattle.oc_bytes.specs.Outcome.{MakesList};
 ghost use Rattle.module_packer.specs.Placement.{fresh, modules_needed, IsPlacement, FreshIsAPlacement};
 ghost use Rattle.module_packer.specs.Kept.{KeptIsAPlacement, ObjectsStay};
 
@@ -53,7 +54,7 @@ pub fn need(sizes: &[u32]) -> usize
 pub fn place_fresh(alloc: Global, sizes: &[u32]) -> Result<Vec<u16>, NoMemory>
     requires some { 0 < length sizes.now }
     requires few { modules_needed sizes.now ≤ GREATEST_ID }
-    ensures fresh { IfOk result (λ ms. ms.items ≡ fresh sizes.now) }
+    ensures fresh { MakesList result (fresh sizes.now) }
     ensures fits { IfOk result (λ ms. IsPlacement GREATEST_ID sizes.now ms.items) }
 {
     let mut packing = Packing::new();

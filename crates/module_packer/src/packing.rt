@@ -1,7 +1,8 @@
 //! A fresh placement, object by object.
 
 ghost use Rattle.std.specs.Prelude.{◌≡◌, ◌≤◌, ◌<◌, ◌+◌, ◌^◌};
-ghost use Rattle.module_packer.specs.Placement.{place_next, none_opened, IsSound};
+ghost use Rattle.module_packer.specs.Placement.{place_next, none_opened};
+ghost use Rattle.module_packer.specs.Inner.Placement.{IsSound};
 
 /// The most bytes that more than one object has in one module.
 pub const ROOM: u32 = 65_536;

@@ -3,8 +3,9 @@ use Rattle.std.proofs.Common.{ℕ, ◌≡◌, ◌+◌, ◌<◌, ◌≤◌, Bool,
 use Rattle.std.specs.Prelude.{nat_lt}
 use Rattle.std.specs.List.{filter_map, cons_option, enumerate_from, slice_get}
 use Rattle.std.proofs.lemmas.List.{at_drop_more, at_drop_all}
+use Rattle.carousel_profile.specs.declared.TheConstants.{MOST_PID}
 use Rattle.mount_table.specs.declared.mount.Mount.{Mount}
-use Rattle.mount_table.specs.declared.mount.TheConstants.{MOST_MOUNTS, MOST_PID}
+use Rattle.mount_table.specs.declared.mount.TheConstants.{MOST_MOUNTS}
 use Rattle.mount_table.specs.declared.fault.TableFault.{TableFault}
 use Rattle.mount_table.specs.declared.fault.TableFault.TheVariants.{TooMany, BadName, BadPid, NameTwice, PidTwice, NoMemory}
 use Rattle.mount_table.specs.Mounts.{is_mount_name, has_name, has_pid, fault_at, faults_of, refusal_of, refusal_in}

@@ -1,14 +1,16 @@
 -- What is cut on a PID depends on the packets of that PID alone, but for the packets' numbers among all that came.
 use Rattle.std.proofs.Common.{ℕ, zero, suc, ◌≡◌, ◌+◌, ◌-◌, ◌/◌, ◌%◌, Bool, true, false, cond, not, ◌==◌, ◌&&◌, ◌||◌, nat_le, nat_lt, List, [], ◌∷◌, ◌++◌, length, map, take, drop, Option, Some, None, Result, Ok, Err, refl, sym, ap, ◌∙◌}
-use Rattle.std.specs.Prelude.{slice_index}
+use Rattle.std.specs.Prelude.{slice_index, if◌then◌else◌}
 use Rattle.std.specs.List.{filter, filter_map, enumerate_from, cons_option}
 use Rattle.std.specs.Option.{option_map}
 use Rattle.std.proofs.lemmas.List.{append-nil, map-append}
 use Rattle.std.proofs.lemmas.List.Elements.{filter-append}
-use Rattle.ts_packet.specs.Packets.{Fields, control, parse_packet, payload_of}
+use Rattle.ts_packet.specs.Packets.{Fields, control, parse_packet}
+use Rattle.carousel_profile.specs.declared.TheConstants.{PACKET_LENGTH}
 use Rattle.ts_packet.specs.declared.PacketFault.{PacketFault}
 use Rattle.ts_packet.specs.declared.PacketFault.TheVariants.{NoSync, Errored, Scrambled, Reserved, BadField}
-use Rattle.section_stream.specs.Cuts.{Bytes, Received, Cut, kept_of, payloads_in, is_repeat, without_repeats_of, without_repeats, pointer_of, pointer_fits, going_on, whole_len, opened_in, cuts_at, cuts_of, cuts, candidates}
+use Rattle.std.specs.Str.{bytes_eq}
+use Rattle.section_stream.specs.Cuts.{Bytes, Received, Cut, kept_of, payloads_in, without_repeats_of, without_repeats, pointer_of, pointer_fits, going_on, whole_len, opened_in, cuts_at, cuts_of, cuts, candidates}
 use Rattle.mount_table.specs.Receiving.{pid_in, pid_of, is_pid, of_pid, header_pid, with_header_pid}
 use Rattle.mount_table.specs.Laws.{unnumbered_cuts, OnePidDecides}
 
@@ -25,11 +27,11 @@ places_of cs = map (λ c. (c.offset, c.bytes)) cs
 
 -- one candidate before others
 abbrev first_of : Bytes → Bytes → ℕ → List (ℕ × Bytes) → List (ℕ × Bytes)
-first_of here later k rest = (188 - length here, take k (here ++ later)) ∷ rest
+first_of here later k rest = (PACKET_LENGTH - length here, take k (here ++ later)) ∷ rest
 
 repeats_plain : (a : Received) (bs : List Received) → without_repeats_of (unnumbered a) (plain bs) ≡ plain (without_repeats_of a bs)
 repeats_plain a [] = refl
-repeats_plain a (b ∷ bs) = go (is_repeat a b) (repeats_plain b bs) where
+repeats_plain a (b ∷ bs) = go ((a.counter == b.counter) && bytes_eq a.payload b.payload) (repeats_plain b bs) where
   go : (t : Bool) → without_repeats_of (unnumbered b) (plain bs) ≡ plain (without_repeats_of b bs)
       → cond t (without_repeats_of (unnumbered b) (plain bs)) (unnumbered b ∷ without_repeats_of (unnumbered b) (plain bs)) ≡ plain (cond t (without_repeats_of b bs) (b ∷ without_repeats_of b bs))
   go true later = later
@@ -64,8 +66,8 @@ at_plain p ps = go (p.start && pointer_fits p) where
   here : Bytes
   here = drop (1 + pointer_of p) p.payload
 
-  go : (t : Bool) → places_of (cond t (opened_in 188 0 here (going_on p.counter (plain ps))) []) ≡ places_of (cond t (opened_in 188 p.number here (going_on p.counter ps)) [])
-  go true = ap (λ (later : Bytes). places_of (opened_in 188 0 here later)) (going_plain p.counter ps) ∙ opened_plain 188 0 p.number here (going_on p.counter ps)
+  go : (t : Bool) → places_of (cond t (opened_in PACKET_LENGTH 0 here (going_on p.counter (plain ps))) []) ≡ places_of (cond t (opened_in PACKET_LENGTH p.number here (going_on p.counter ps)) [])
+  go true = ap (λ (later : Bytes). places_of (opened_in PACKET_LENGTH 0 here later)) (going_plain p.counter ps) ∙ opened_plain PACKET_LENGTH 0 p.number here (going_on p.counter ps)
   go false = refl
 
 cuts_plain : (rs : List Received) → places_of (cuts_of (plain rs)) ≡ places_of (cuts_of rs)
@@ -123,7 +125,7 @@ not_kept_header : (pid : ℕ) (p : Bytes) → (header_pid p == pid) ≡ false �
 not_kept_header pid p e =
     go (slice_index p 0 == 0x47) (slice_index p 1 / 128 == 1) (slice_index p 3 / 64 == 0) (control p == 0) ((control p == 3) && nat_lt 182 (slice_index p 4)) where
       fields : Fields
-      fields = record { pid = header_pid p; start = slice_index p 1 / 64 % 2 == 1; counter = slice_index p 3 % 16; payload = payload_of p }
+      fields = record { pid = header_pid p; start = slice_index p 1 / 64 % 2 == 1; counter = slice_index p 3 % 16; payload = if control p == 1 then drop 4 p else (if control p == 3 then drop (5 + slice_index p 4) p else []) }
 
       go : (sync errored clear reserved long : Bool)
           → kept_of pid 0 (cond (not sync) (Err NoSync) (cond errored (Err Errored) (cond (not clear) (Err Scrambled) (cond reserved (Err Reserved) (cond long (Err BadField) (Ok fields)))))) ≡ None

@@ -6,12 +6,13 @@ use Rattle.std.proofs.lemmas.List.{length-take, get_or-take, get_or_default}
 use Rattle.std.proofs.lemmas.List.Elements.{All-cons, All-nil, All-head, All-tail}
 use Rattle.std.proofs.lemmas.List.Folds.{list_any_at, list_any_none}
 use Rattle.std.proofs.lemmas.List.FromFn.{get_or-enumerate_from, length-enumerate_from}
+use Rattle.carousel_profile.specs.declared.TheConstants.{MOST_PID}
 use Rattle.section_stream.specs.Cuts.{Bytes}
 use Rattle.path_tree.specs.Paths.{same_name}
 use Rattle.path_tree.proofs.CallerLemmas.{same_name-is, same_name-refl}
 use Rattle.tuner_core.specs.LookBack.{answer_after}
 use Rattle.mount_table.specs.declared.mount.Mount.{Mount}
-use Rattle.mount_table.specs.declared.mount.TheConstants.{MOST_MOUNTS, MOST_PID}
+use Rattle.mount_table.specs.declared.mount.TheConstants.{MOST_MOUNTS}
 use Rattle.mount_table.specs.declared.fault.TableFault.{TableFault}
 use Rattle.mount_table.specs.declared.fault.TableFault.TheVariants.{TooMany, BadName, BadPid, NameTwice, PidTwice}
 use Rattle.mount_table.specs.declared.mounts.Mounted.TheVariants.{At}

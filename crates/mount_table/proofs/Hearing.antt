@@ -13,7 +13,7 @@ use Rattle.tuner_core.specs.Stands as tuners
 use Rattle.tuner_core.specs.declared.tuner.Tuner.{Tuner}
 use Rattle.mount_table.specs.declared.mount.Mount.{Mount}
 use Rattle.mount_table.specs.declared.receiver.Receiver.{Receiver}
-use Rattle.mount_table.specs.Places.{pids_of, IsPlaceOf}
+use Rattle.mount_table.specs.Inner.Places.{pids_of, IsPlaceOf}
 use Rattle.mount_table.specs.Receiving.{header_pid, with_header_pid}
 use Rattle.mount_table.specs.Stands.{Receives, CompletesOne}
 use Rattle.mount_table.proofs.Cutting.{handed_with, handed_without, cuts_more, count_before, count_after, cuts_still}

@@ -8,11 +8,12 @@ use Rattle.std.proofs.lemmas.List.{get_or-map, get_or-replicate, get_or-set_same
 use Rattle.std.proofs.lemmas.List.Sorted.{All-permutation, IsPermutation-map, length_permutation}
 use Rattle.std.proofs.lemmas.Map.Keys.{IsDistinct-IsPermutation, IsDistinct-from_apart, apart_from_distinct}
 use Rattle.std.proofs.lemmas.Option.{none-some, same_Some, slice_get-get_or, slice_get_within}
+use Rattle.carousel_profile.specs.declared.TheConstants.{MOST_PID}
 use Rattle.mount_table.specs.declared.mount.Mount.{Mount}
-use Rattle.mount_table.specs.declared.mount.TheConstants.{MOST_MOUNTS, MOST_PID}
+use Rattle.mount_table.specs.declared.mount.TheConstants.{MOST_MOUNTS}
 use Rattle.mount_table.specs.Laws.{IsSound}
 use Rattle.mount_table.specs.Mounts.{refusal_of, IsTableOf}
-use Rattle.mount_table.specs.Places.{pids_of, AreApart, IsPlaceOf, ArePlaces}
+use Rattle.mount_table.specs.Inner.Places.{pids_of, AreApart, IsPlaceOf, ArePlaces}
 use Rattle.mount_table.proofs.Deciding.{sound_is_accepted}
 
 -- ---- an element by its place

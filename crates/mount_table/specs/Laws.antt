@@ -1,11 +1,12 @@
 -- A mount depends on the packets of its PID alone.
 use Rattle.std.specs.Prelude.{◌≡◌, ◌≢◌, ◌↔◌, ◌≤◌, ℕ, true, false, List, [], ◌∷◌, length, map, replicate, Some, None}
 use Rattle.std.specs.List.{All, AllPairs}
+use Rattle.carousel_profile.specs.declared.TheConstants.{MOST_PID}
 use Rattle.ts_packet.specs.Packets.{packet_bytes}
 use Rattle.path_tree.specs.Paths.{PathNames}
 use Rattle.section_stream.specs.Cuts.{Bytes, cuts, candidates}
 use Rattle.mount_table.specs.declared.mount.Mount.{Mount}
-use Rattle.mount_table.specs.declared.mount.TheConstants.{MOST_MOUNTS, MOST_PID}
+use Rattle.mount_table.specs.declared.mount.TheConstants.{MOST_MOUNTS}
 use Rattle.mount_table.specs.Receiving.{of_pid}
 use Rattle.mount_table.specs.Mounts.{is_mount_name, refusal_of, IsTableOf, mount_named, mounted_after}
 

@@ -1,5 +1,5 @@
 pub mod Receiving
-pub mod Places
 pub mod Mounts
 pub mod Stands
 pub mod Laws
+pub mod Inner

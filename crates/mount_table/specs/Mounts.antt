@@ -4,11 +4,12 @@ use Rattle.std.specs.Prelude.{ℕ, Bool, not, ◌&&◌, ◌||◌, List, [], ◌�
 use Rattle.std.specs.Char.{is_ascii_digit, is_ascii_lowercase}
 use Rattle.std.specs.List.{filter_map, find, list_all, list_any, enumerate_from}
 use Rattle.std.specs.List.Sorted.{IsPermutation, IsSortedByKey}
+use Rattle.carousel_profile.specs.declared.TheConstants.{MOST_PID}
 use Rattle.path_tree.specs.Paths.{Bytes, PathNames, name_cmp, same_name}
 use Rattle.section_stream.specs.Cuts.{candidates}
 use Rattle.tuner_core.specs.LookBack.{answer_after}
 use Rattle.mount_table.specs.declared.mount.Mount.{Mount}
-use Rattle.mount_table.specs.declared.mount.TheConstants.{MOST_MOUNTS, MOST_NAME, MOST_PID}
+use Rattle.mount_table.specs.declared.mount.TheConstants.{MOST_MOUNTS, MOST_NAME}
 use Rattle.mount_table.specs.declared.fault.TableFault.{TableFault}
 use Rattle.mount_table.specs.declared.fault.TableFault.TheVariants.{TooMany, BadName, BadPid, NameTwice, PidTwice, NoMemory}
 use Rattle.mount_table.specs.declared.mounts.Mounted.{Mounted}

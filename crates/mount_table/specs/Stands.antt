@@ -4,7 +4,6 @@ use Rattle.std.specs.List.{All, Contains}
 use Rattle.section_stream.specs.Cuts.{Bytes, candidates}
 use Rattle.section_stream.specs.Rules as streams
 use Rattle.tuner_core.specs.Stands as tuners
-use Rattle.mount_table.specs.Places.{pids_of, ArePlaces}
 use Rattle.mount_table.specs.Receiving.{with_header_pid}
 use Rattle.mount_table.specs.declared.mount.Mount.{Mount}
 use Rattle.mount_table.specs.declared.receiver.Receiver.{Receiver}
@@ -18,10 +17,6 @@ pub record MountsState : Type 0 where
 
 abbrev pub view_mounts : Inside → MountsState
 view_mounts m = record { receivers = m.receivers.items; spent = m.spent }
-
--- for each PID the table keeps the place of the one receiver that is on it, and none where no receiver is
-abbrev pub HasPlaces : Inside → Type 0
-HasPlaces m = ArePlaces (pids_of (map (λ r. r.mount) m.receivers.items)) m.places.items
 
 -- the mounts in the table's order
 abbrev pub mounts_of : MountsState → List Mount

@@ -2,13 +2,12 @@
 ghost use Rattle.std.specs.Prelude.{◌≡◌};
 ghost use Rattle.mount_table.specs.Laws.{OneMountDecides, OnePidDecides, OrderIsFree, PremisesMet, SoundIsAccepted};
 
-use crate::mount::{MOST_MOUNTS, MOST_NAME, MOST_PID};
+use crate::mount::{MOST_MOUNTS, MOST_NAME};
 
-/// The limits of a table.
+/// The limits of a table. The greatest PID is a number of the profile ([`carousel_profile::profile_is_these_numbers`]).
 pub fn limits_are_numbers()
     ensures mounts { MOST_MOUNTS ≡ 16 }
     ensures name { MOST_NAME ≡ 32 }
-    ensures pid { MOST_PID ≡ 8190 }
 {}
 
 /// Two lists of packets whose packets that parse with one PID are equal, in order, are cut alike on that PID: they have the same candidates,

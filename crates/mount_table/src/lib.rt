@@ -35,10 +35,11 @@ mod places;
 mod receiver;
 mod receiving;
 
+pub use carousel_profile::MOST_PID;
 pub use fault::TableFault;
 pub use laws::{
     limits_are_numbers, one_mount_decides, one_pid_decides, order_is_free, premises_can_be_met,
     sound_is_accepted,
 };
-pub use mount::{MOST_MOUNTS, MOST_NAME, MOST_PID, Mount};
+pub use mount::{MOST_MOUNTS, MOST_NAME, Mount};
 pub use mounts::{Mounted, Mounts};

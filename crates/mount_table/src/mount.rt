@@ -5,6 +5,7 @@ ghost use Rattle.mount_table.specs.Mounts as table;
 ghost use Rattle.mount_table.specs.Mounts.{fault_at, refusal_of, IsTableOf};
 
 use crate::fault::TableFault;
+use carousel_profile::MOST_PID;
 use path_tree::Name;
 use std::cmp::Ordering;
 
@@ -13,9 +14,6 @@ pub const MOST_MOUNTS: usize = 16;
 
 /// The most bytes of a mount's name. This limit is this project's own.
 pub const MOST_NAME: usize = 32;
-
-/// The greatest PID of a mount. The next one, 8,191, is that of null packets (ISO/IEC 13818-1, table 2-3).
-pub const MOST_PID: u16 = 8190;
 
 /// A carousel under a name.
 #[derive(Debug, Drop)]

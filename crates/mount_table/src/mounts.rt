@@ -4,7 +4,7 @@ ghost use Rattle.std.specs.Option.{option_map};
 ghost use Rattle.path_tree.specs.Paths.{same_name};
 ghost use Rattle.section_stream.specs.Cuts.{Bytes};
 ghost use Rattle.mount_table.specs.Mounts.{refusal_of, refusal_in, IsTableOf, mounted_after, is_under_mount};
-ghost use Rattle.mount_table.specs.Places.{pids_of, IsPlaceOf};
+ghost use Rattle.mount_table.specs.Inner.Places.{pids_of, IsPlaceOf};
 ghost use Rattle.mount_table.specs.Receiving as receiving;
 ghost use Rattle.mount_table.specs.Stands.{StandsFor, Receives, CompletesOne, mounts_of};
 
@@ -13,6 +13,7 @@ use crate::mount::{Mount, refusal, sort_by_name};
 use crate::places::places_of;
 use crate::receiver::Receiver;
 use crate::receiving::header_pid;
+use carousel_profile::PACKET_LENGTH;
 use oc_bytes::NoMemory;
 use path_resolver::Answer;
 use path_tree::Path;
@@ -41,7 +42,8 @@ pub struct Mounts {
 }
 
 impl Model for Mounts {
-    ghost use Rattle.mount_table.specs.Stands.{MountsState, view_mounts, HasPlaces};
+    ghost use Rattle.mount_table.specs.Stands.{MountsState, view_mounts};
+    ghost use Rattle.mount_table.specs.Inner.Stands.{HasPlaces};
 
     ghost Value = { MountsState };
 
@@ -68,7 +70,7 @@ fn receivers_of(alloc: Global, mounts: Vec<Mount>) -> Result<Vec<Receiver>, NoMe
 fn hear_at(
     receivers: &mut [Receiver],
     place: Option<u8>,
-    packet: &[u8; 188],
+    packet: &[u8; PACKET_LENGTH],
 ) -> Result<(), NoMemory>
     requires { IsPlaceOf (receiving.header_pid packet.now)
         (pids_of (map (λ r. r.mount) receivers.old)) place }
@@ -128,7 +130,7 @@ impl Mounts {
     ///
     /// `NoMemory` comes only of a packet that completes a section on a mount's PID. After it the table is spent: each later call of this and
     /// of [`open_path`](Mounts::open_path) answers `NoMemory`.
-    pub fn feed(&mut self, packet: &[u8; 188]) -> Result<(), NoMemory>
+    pub fn feed(&mut self, packet: &[u8; PACKET_LENGTH]) -> Result<(), NoMemory>
         ensures stands { OnOk result ((packets : List Bytes)
             → StandsFor self.old packets
             → StandsFor self.new (packets ++ packet.now ∷ [])) }
@@ -151,7 +153,7 @@ impl Mounts {
 
     /// The mount on a packet's PID takes it, if there is one.
     #[inline]
-    fn hear(&mut self, packet: &[u8; 188]) -> Result<(), NoMemory>
+    fn hear(&mut self, packet: &[u8; PACKET_LENGTH]) -> Result<(), NoMemory>
         ensures receives { OnOk result ((packets : List Bytes)
             → All (Receives packets) self.old.receivers
             → All (Receives (packets ++ packet.now ∷ [])) self.new.receivers) }

@@ -1,5 +1,5 @@
 ghost use Rattle.std.specs.Prelude.{◌≡◌, IfOk};
-ghost use Rattle.mount_table.specs.Places.{pids_of, AreApart, ArePlaces};
+ghost use Rattle.mount_table.specs.Inner.Places.{pids_of, AreApart, ArePlaces};
 
 use crate::mount::Mount;
 use oc_bytes::NoMemory;

@@ -7,6 +7,7 @@ ghost use Rattle.mount_table.specs.Receiving.{header_pid};
 ghost use Rattle.mount_table.specs.Stands.{Receives};
 
 use crate::mount::Mount;
+use carousel_profile::PACKET_LENGTH;
 use oc_bytes::NoMemory;
 use path_resolver::{Answer, resolve};
 use path_tree::Path;
@@ -63,7 +64,7 @@ impl Receiver {
 
     /// Takes a packet whose header has the mount's PID. Most packets complete no section, and then nothing is called.
     #[inline]
-    pub fn hear(&mut self, packet: &[u8; 188]) -> Result<(), NoMemory>
+    pub fn hear(&mut self, packet: &[u8; PACKET_LENGTH]) -> Result<(), NoMemory>
         requires { header_pid packet.now ≡ self.old.mount.pid }
         ensures receives { OnOk result ((packets : List Bytes)
             → Receives packets self.old

@@ -7,8 +7,8 @@ use Rattle.std.proofs.lemmas.Nat.{be_bytes_2, be_bytes_4, be_bytes_8}
 use Rattle.std.proofs.Math.Nat.{add-zero}
 use Rattle.byteorder.specs.Endian.{big_from, big_bytes}
 use Rattle.byteorder.specs.Numbers.{length-bytes_high_first, big_number-reads_back, big_from-lt}
-use Rattle.oc_bytes.specs.Numbers.{IsBytes, byte, two_bytes, four_bytes, eight_bytes, number_of}
-use Rattle.oc_bytes.specs.Cursor.{Cursor, Reading, ◌>>=◌, past, number_at, bytes_at, sized_at, each_at, if_holds}
+use Rattle.oc_bytes.specs.Numbers.{IsBytes, two_bytes, four_bytes, eight_bytes, number_of}
+use Rattle.oc_bytes.specs.Cursor.{Cursor, Reading, ◌>>=◌, past, number_at, bytes_at, sized_at, each_at}
 use Rattle.oc_bytes.specs.Agreement.{at, move_by, shift_by, Taken, Agrees, ReadsEach, IsList, Then}
 use Rattle.oc_bytes.proofs.Reading.{read_number, read_one}
 
@@ -150,12 +150,12 @@ pub record IsWide (n limit : ℕ) (be : ℕ → List ℕ) : Type 0 where
   pub again : (v : ℕ) → v < limit → number_of (be v) ≡ v
   pub below : (bytes : List ℕ) → length bytes ≡ n → IsBytes bytes → number_of bytes < limit
 
-number_1 : (bytes : List ℕ) → length bytes ≡ 1 → byte (number_of bytes) ≡ bytes
+number_1 : (bytes : List ℕ) → length bytes ≡ 1 → number_of bytes ∷ [] ≡ bytes
 number_1 [] len = absurd (omega arith)
-number_1 (a ∷ []) len = ap byte (zero-add a)
+number_1 (a ∷ []) len = ap (λ n. n ∷ []) (zero-add a)
 number_1 (a ∷ b ∷ rest) len = absurd (omega arith)
 
-pub wide_1 : IsWide 1 256 byte
+pub wide_1 : IsWide 1 256 (λ n. n ∷ [])
 wide_1 = record {
   len = λ v. refl;
   back = λ bytes len fits. number_1 bytes len;
@@ -222,9 +222,9 @@ bytes_agrees n = agrees_by (cut_agrees n (λ s. s)) (λ bytes s fits h. (ap leng
 abbrev pub Held : {A : Type 0} → (List ℕ → A → Type 0) → (A → Bool) → List ℕ → A → Type 0
 Held R test bytes a = R bytes a × (test a ≡ true)
 
-pub held_agrees : {A : Type 0} {r : Cursor → Reading A} {R : List ℕ → A → Type 0} → Agrees r R → (test : A → Bool) → Agrees (λ c. r c >>= λ x. if_holds c (test x.0) x) (Held R test)
+pub held_agrees : {A : Type 0} {r : Cursor → Reading A} {R : List ℕ → A → Type 0} → Agrees r R → (test : A → Bool) → Agrees (λ c. r c >>= λ x. cond (test x.0) (Ok x) (Err c.place)) (Held R test)
 held_agrees {A} {r} {R} agrees test =
-    bind_agrees agrees (λ c x. if_holds c (test x.0) x)
+    bind_agrees agrees (λ c x. cond (test x.0) (Ok x) (Err c.place))
     (λ c x y fits t e.
     let h = held_ok (test x.0) c.place x y e in
     subst (Taken (Held R test) c) h.1 (record { front = t.front; reads = (t.reads, h.0); parts = t.parts; place = t.place }))

@@ -5,3 +5,4 @@ pub use Rattle.oc_bytes.specs.Agreement.{Then, IsList}
 pub use Rattle.oc_bytes.proofs.Grammars.{grammar_agrees, fits_reads, spelled_again, spelled_front, front_spelled, from_some, from_fault, StandsFirst, is_found, front_read, fault_inside, put, passes, counted_read, read_here, stops_here}
 pub use Rattle.oc_bytes.proofs.Parts.{part_is, cut_passes, Passes}
 pub use Rattle.oc_bytes.specs.Agreement.{Nested, Counted}
+pub use Rattle.oc_bytes.proofs.Runs.{Shortens, whole_run, run_more, run_end, left_within}

@@ -1,9 +1,10 @@
 -- Of each grammar: its reading and its relation say the same, and the spelling of a value is in the relation and is read as the value.
-use Rattle.std.proofs.Common.{◌≡◌, ℕ, ◌+◌, ◌-◌, ◌≤◌, ◌↔◌, List, [], ◌∷◌, ◌++◌, length, take, drop, Option, Some, None, MatchOption, Result, Ok, Err, refl, sym, ap, subst, ◌∙◌, zero-add, arith}
+use Rattle.std.proofs.Common.{◌≡◌, ℕ, ◌+◌, ◌-◌, ◌≤◌, ◌↔◌, List, [], ◌∷◌, ◌++◌, length, take, drop, Option, Some, None, MatchOption, Result, Ok, Err, refl, sym, ap, subst, ◌∙◌, zero-add, arith, cond}
 use Rattle.std.specs.Prelude.{⊤, IfOk, IfErr, IfSome}
 use Rattle.std.specs.List.{flat_map}
+use Rattle.std.specs.Result.{result_ok}
 use Rattle.std.proofs.lemmas.List.{append-nil, length-append, length-take, take_at, take-append-drop}
-use Rattle.oc_bytes.specs.Cursor.{Cursor, Reading, ◌>>=◌, past, number_at, bytes_at, sized_at, if_holds, nested_at, counting, from_start, read_from_start, value_read}
+use Rattle.oc_bytes.specs.Cursor.{Cursor, Reading, ◌>>=◌, past, number_at, bytes_at, sized_at, nested_at, from_start, read_from_start, value_only}
 use Rattle.oc_bytes.specs.Numbers.{IsBytes, number_of}
 use Rattle.oc_bytes.specs.Outcome.{Gives}
 use Rattle.oc_bytes.specs.Agreement.{at, move_by, shift_by, Agrees, ReadsEach, Then}
@@ -66,7 +67,7 @@ pub spelled_front : {A : Type 0} (g : Grammar A) (a : A) → Fits g a → (s res
 spelled_front g a fits s rest e = rw (e, spelled_again g a fits 0 rest, zero-add (length (spell g a))) refl
 
 pub front_spelled : {A : Type 0} (g : Grammar A) (a : A) → Fits g a → front_of g (spell g a) ≡ Some a
-front_spelled g a fits = ap (λ (s : List ℕ). front_of g s) (sym (append-nil (spell g a))) ∙ ap value_read (spelled_again g a fits 0 [])
+front_spelled {A} g a fits = ap (λ (s : List ℕ). front_of g s) (sym (append-nil (spell g a))) ∙ ap (λ (m : Reading A). result_ok (value_only m)) (spelled_again g a fits 0 [])
 
 -- ---- what is read at the front of some bytes, as a call answers it
 
@@ -121,9 +122,9 @@ passes (number w) c x e = cut_passes (size_of w) c (number_of (take (size_of w) 
 passes (bytes n) c x e = cut_passes n c (take n c.rest) x e
 passes (sized w) c x e = bind_passes c (number_at (size_of w) c) (λ n. bytes_at n.0 n.1) x e (cut_passes (size_of w) c _) (λ y h. cut_passes y.0 y.1 _ x h)
 passes (each g n) c x e = each_passes (read g) (passes g) n c x e
-passes (held g test) c x e = bind_passes c (read g c) (λ y. if_holds c (test y.0) y) x e (passes g c) (λ y h. ends_there y.1 y.1 y.0 x (ap okay (held_ok (test y.0) c.place y x h).1) (pass_none y.1))
+passes (held g test) c x e = bind_passes c (read g c) (λ y. cond (test y.0) (Ok y) (Err c.place)) x e (passes g c) (λ y h. ends_there y.1 y.1 y.0 x (ap okay (held_ok (test y.0) c.place y x h).1) (pass_none y.1))
 passes (enclosed w g) c x e = bind_passes c (number_at (size_of w) c) (λ n. nested_at n.0 (read g) n.1) x e (cut_passes (size_of w) c _) (λ y h. nested_passes (read g) y.0 y.1 x h)
-passes (counted g) c x e = bind_passes c (read g c) (counting c.place) x e (passes g c) (λ y h. ends_there y.1 y.1 (y.0, y.1.place - c.place) x h (pass_none y.1))
+passes (counted g) c x e = bind_passes c (read g c) (λ y. Ok ((y.0, y.1.place - c.place), y.1)) x e (passes g c) (λ y h. ends_there y.1 y.1 (y.0, y.1.place - c.place) x h (pass_none y.1))
 passes (field g part next) c x e = bind_passes c (read g c) (λ y. read (next y.0) y.1) x e (passes g c) (λ y h. passes (next y.0) y.1 x h)
 passes (unkept g next) c x e = bind_passes c (read g c) (λ y. read (next y.0) y.1) x e (passes g c) (λ y h. passes (next y.0) y.1 x h)
 passes (gives v) c x e = ends_there c c v x e (pass_none c)
@@ -133,7 +134,7 @@ pub counted_read : {A : Type 0} (g : Grammar A) (c : Cursor) (x : A × Cursor) �
 unfolding read
 counted_read {A} g c x e =
     let p = passes g c x e in
-    (x.1.place - c.place, ap (λ (m : Reading A). m >>= counting c.place) e, omega (arith, ap (λ (d : Cursor). d.place) p.2))
+    (x.1.place - c.place, ap (λ (m : Reading A). m >>= λ y. Ok ((y.0, y.1.place - c.place), y.1)) e, omega (arith, ap (λ (d : Cursor). d.place) p.2))
 
 -- ---- a value at the front of bytes that stand anywhere
 

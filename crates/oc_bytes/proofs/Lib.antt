@@ -5,3 +5,4 @@ pub mod Outcomes
 pub mod Reading
 pub mod Parts
 pub mod Grammars
+pub mod Runs

@@ -3,7 +3,7 @@ use Rattle.std.proofs.Common.{◌≡◌, ℕ, zero, suc, ◌+◌, ◌-◌, ◌�
 use Rattle.std.proofs.lemmas.Bool.{ltb-false}
 use Rattle.std.proofs.lemmas.List.{length-append, length-drop, drop-drop}
 use Rattle.oc_bytes.specs.Numbers.{IsBytes}
-use Rattle.oc_bytes.specs.Cursor.{Cursor, Reading, ◌>>=◌, past, within, part_at, each_at, nested_at, counting}
+use Rattle.oc_bytes.specs.Cursor.{Cursor, Reading, ◌>>=◌, past, within, part_at, each_at, nested_at}
 use Rattle.oc_bytes.specs.Agreement.{at, move_by, Taken, Agrees, Nested, Counted}
 use Rattle.oc_bytes.proofs.Agree.{fits_front, bind_ok, bind_err, guard_ok, okay, okay_is, not_fault, moved, bind_agrees, agrees_same, AreBytes, bytes_agrees}
 
@@ -38,9 +38,9 @@ nested_agrees {A} {r} {R} agrees n = agrees_same (bind_agrees (bytes_agrees n) (
       by_test c true = refl
       by_test c false = refl
 
-pub counted_agrees : {A : Type 0} {r : Cursor → Reading A} {R : List ℕ → A → Type 0} → Agrees r R → Agrees (λ c. r c >>= counting c.place) (Counted R)
+pub counted_agrees : {A : Type 0} {r : Cursor → Reading A} {R : List ℕ → A → Type 0} → Agrees r R → Agrees (λ c. r c >>= λ x. Ok ((x.0, x.1.place - c.place), x.1)) (Counted R)
 counted_agrees {R = R} agrees =
-    bind_agrees agrees (λ c. counting c.place)
+    bind_agrees agrees (λ c x. Ok ((x.0, x.1.place - c.place), x.1))
     (λ c x y fits t e.
     subst (Taken (Counted R) c) (okay_is ((x.0, x.1.place - c.place), x.1) y e) (record { front = t.front; reads = (t.reads, omega (arith, t.place)); parts = t.parts; place = t.place }))
     (λ front rest place y h.

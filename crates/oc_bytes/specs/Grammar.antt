@@ -1,8 +1,9 @@
 -- A message's grammar: one description, field by field, from which its reading, its spelling and the relation of its bytes and values follow.
-use Rattle.std.specs.Prelude.{◌≡◌, ℕ, ◌<◌, List, [], ◌∷◌, ◌++◌, length, Option, Ok, ◌==◌, Bool, true}
+use Rattle.std.specs.Prelude.{◌≡◌, ℕ, ◌<◌, List, [], ◌∷◌, ◌++◌, length, ◌-◌, Option, Ok, Err, ◌==◌, if◌then◌else◌, Bool, true}
 use Rattle.std.specs.List.{flat_map}
-use Rattle.oc_bytes.specs.Numbers.{byte, two_bytes, four_bytes, eight_bytes}
-use Rattle.oc_bytes.specs.Cursor.{Cursor, Reading, ◌>>=◌, number_at, bytes_at, sized_at, each_at, if_holds, nested_at, counting, from_start, value_read}
+use Rattle.std.specs.Int.{w16, w32, w64, to_be_bytes}
+use Rattle.std.specs.Result.{result_ok}
+use Rattle.oc_bytes.specs.Cursor.{Cursor, Reading, ◌>>=◌, number_at, bytes_at, sized_at, each_at, nested_at, from_start, value_only}
 use Rattle.oc_bytes.specs.Agreement.{IsList, Then, Nested, Counted}
 
 -- how many bytes a number has
@@ -26,10 +27,10 @@ limit_of eight = 18446744073709551616
 
 -- the bytes of a number
 abbrev pub in_bytes : Width → ℕ → List ℕ
-in_bytes one n = byte n
-in_bytes two n = two_bytes n
-in_bytes four n = four_bytes n
-in_bytes eight n = eight_bytes n
+in_bytes one n = n ∷ []
+in_bytes two n = to_be_bytes w16 n
+in_bytes four n = to_be_bytes w32 n
+in_bytes eight n = to_be_bytes w64 n
 
 -- What stands in the bytes, with the type of its value: a number; so many bytes; bytes with their number before them;
 -- so many of one kind; a value for which a test holds; a part with the number of its bytes before it, in which bytes
@@ -62,16 +63,16 @@ read (number w) c = number_at (size_of w) c
 read (bytes n) c = bytes_at n c
 read (sized w) c = sized_at (size_of w) c
 read (each g n) c = each_at (read g) n c
-read (held g test) c = read g c >>= λ x. if_holds c (test x.0) x
+read (held g test) c = read g c >>= λ x. if test x.0 then Ok x else Err c.place
 read (enclosed w g) c = number_at (size_of w) c >>= λ n. nested_at n.0 (read g) n.1
-read (counted g) c = read g c >>= counting c.place
+read (counted g) c = read g c >>= λ x. Ok ((x.0, x.1.place - c.place), x.1)
 read (field g part next) c = read g c >>= λ x. read (next x.0) x.1
 read (unkept g next) c = read g c >>= λ x. read (next x.0) x.1
 read (gives a) c = Ok (a, c)
 
 -- the value at the front of some bytes, where they are read; what stands after it is passed over
 abbrev pub front_of : {A : Type 0} → Grammar A → List ℕ → Option A
-front_of g content = value_read (read g (from_start content))
+front_of g content = result_ok (value_only (read g (from_start content)))
 
 -- all of the bytes are read as the value
 unfoldable pub Reads : {A : Type 0} → Grammar A → List ℕ → A → Type 0

@@ -1,7 +1,6 @@
 //! Length fields of 12 bits, as sections have them (ISO/IEC 13818-1, 2.4.4).
 
-ghost use Rattle.std.specs.Prelude.{◌≡◌};
-ghost use Rattle.oc_bytes.specs.Lengths.{twelve_bits};
+ghost use Rattle.std.specs.Prelude.{◌≡◌, ◌+◌, ◌*◌, ◌%◌};
 
 /// The greatest length field of a section: how many bytes follow it.
 pub const MOST_LENGTH: usize = 4_093;
@@ -13,7 +12,7 @@ pub const MOST_SECTION: usize = MOST_LENGTH + 3;
 /// passed over.
 #[inline]
 pub fn length_field(high: u8, low: u8) -> usize
-    ensures { result ≡ twelve_bits high low }
+    ensures { result ≡ high % 16 * 256 + low }
 {
     usize::from(high) % 16 * 256 + usize::from(low)
 }

@@ -1,4 +1,4 @@
-//! The bytes that the crates of the carousel share: shared bytes, the fields of a message, a writer of
+//! The bytes that the crates of the carousel share: shared bytes, the fields of a message, descriptors, a writer of
 //! fields, and the two traits through which bytes come from the outside and go there.
 //!
 //! Numbers on the wire are big-endian (ISO/IEC 13818-1 and ISO/IEC 13818-6). The traits, their counts of
@@ -15,6 +15,7 @@
 #![tactic(auto)]
 
 mod blob;
+mod descriptors;
 mod fields;
 mod lengths;
 mod limits;
@@ -25,6 +26,7 @@ mod source;
 mod writer;
 
 pub use blob::{Blob, are_bytes};
+pub use descriptors::{Descriptor, Descriptors};
 pub use fields::{Cut, Fields};
 pub use lengths::{MOST_LENGTH, MOST_SECTION, length_field};
 pub use limits::limits_are_numbers;

@@ -1,5 +1,5 @@
 ghost use Rattle.std.specs.Prelude.{◌≡◌, ◌<◌, ◌≤◌, ◌+◌, ◌↔◌, ◌++◌, ◌||◌, true, false, [], Some, vec_len, length, min, take, Contains, IfOk, IsErr, IsErrOf, OnErr};
-ghost use Rattle.oc_bytes.specs.Outcome.{Rose, Known, cap_at_u64};
+ghost use Rattle.oc_bytes.specs.Outcome.{Known, cap_at_u64, Faulted};
 ghost use Rattle.oc_bytes.specs.Streams.{Takes};
 
 use crate::sink::{Sink, WriteFault};
@@ -58,7 +58,7 @@ impl Source for MemSource {
             Takes before after into.new n)) }
         ensures nothing { OnErr result (Some (left_of self.new) ≡ Some (left_of self.old)) }
         ensures later { reads_failed self.old ≤ reads_failed self.new }
-        ensures cause { OnErr result (Rose (reads_failed self.old) (reads_failed self.new)) }
+        ensures cause { OnErr result (Faulted reads_failed self.old self.new) }
         // The plan of failures and pieces.
         ensures planned { IsErr result ↔ Contains (failing_reads self.old) (reads_made self.old) }
         ensures piece { IfOk result (λ n.
@@ -152,8 +152,7 @@ impl Sink for MemSink {
             after ≡ before ++ take n from.now)) }
         ensures nothing { OnErr result (Some (written_to self.new) ≡ Some (written_to self.old)) }
         ensures later { writes_failed self.old ≤ writes_failed self.new }
-        ensures cause { IsErrOf result WriteFault.Failed
-            → Rose (writes_failed self.old) (writes_failed self.new) }
+        ensures cause { IsErrOf result WriteFault.Failed → Faulted writes_failed self.old self.new }
         ensures tried { self.new.is_late ≡ (self.old.has_failed || self.old.is_late) }
         ensures fails { IsErrOf result WriteFault.Failed → self.new.has_failed ≡ true }
         ensures goes_on { (IsErrOf result WriteFault.Failed → ⊥)

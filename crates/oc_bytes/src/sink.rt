@@ -1,5 +1,5 @@
 ghost use Rattle.std.specs.Prelude.{◌≡◌, ◌<◌, ◌≤◌, ◌++◌, ◌||◌, Bool, true, false, List, ℕ, Option, length, take, IfOk, OnOk, OnErr, IsErrOf};
-ghost use Rattle.oc_bytes.specs.Outcome.{Rose, Known};
+ghost use Rattle.oc_bytes.specs.Outcome.{Known, Faulted};
 ghost use Rattle.oc_bytes.specs.Streams.{AppendsPrefix};
 
 use thiserror::Error;
@@ -42,8 +42,7 @@ pub trait Sink {
             after ≡ before ++ take n from.now)) }
         ensures nothing { OnErr result (written self.new ≡ written self.old) }
         ensures later { faults self.old ≤ faults self.new }
-        ensures cause { IsErrOf result WriteFault.Failed
-            → Rose (faults self.old) (faults self.new) }
+        ensures cause { IsErrOf result WriteFault.Failed → Faulted faults self.old self.new }
         ensures tried { late self.new ≡ (failed self.old || late self.old) }
         ensures fails { IsErrOf result WriteFault.Failed → failed self.new ≡ true }
         ensures goes_on { (IsErrOf result WriteFault.Failed → ⊥)
@@ -64,8 +63,7 @@ pub fn write_all<K: Sink>(sink: &mut K, from: &[u8]) -> Result<(), WriteFault>
         (Known (K.written sink.old) (K.written sink.new) (λ before after.
         AppendsPrefix before after from.now)) }
     ensures later { K.faults sink.old ≤ K.faults sink.new }
-    ensures cause { IsErrOf result WriteFault.Failed
-        → Rose (K.faults sink.old) (K.faults sink.new) }
+    ensures cause { IsErrOf result WriteFault.Failed → Faulted K.faults sink.old sink.new }
     ensures in_time { K.failed sink.old ≡ false → K.late sink.new ≡ K.late sink.old }
     ensures fails { IsErrOf result WriteFault.Failed → K.failed sink.new ≡ true }
     ensures goes_on { (IsErrOf result WriteFault.Failed → ⊥)

@@ -1,5 +1,5 @@
 ghost use Rattle.std.specs.Prelude.{◌≡◌, ◌<◌, ◌≤◌, List, ℕ, Option, length, IfOk, OnErr};
-ghost use Rattle.oc_bytes.specs.Outcome.{Rose, Known};
+ghost use Rattle.oc_bytes.specs.Outcome.{Known, Faulted};
 ghost use Rattle.oc_bytes.specs.Streams.{Takes};
 
 use thiserror::Error;
@@ -30,7 +30,7 @@ pub trait Source {
             Known (left self.old) (left self.new) (λ before after. Takes before after into.new n)) }
         ensures nothing { OnErr result (left self.new ≡ left self.old) }
         ensures later { faults self.old ≤ faults self.new }
-        ensures cause { OnErr result (Rose (faults self.old) (faults self.new)) };
+        ensures cause { OnErr result (Faulted faults self.old self.new) };
 
     /// The count of faults, which stays at the greatest `u64`.
     fn faults(&self) -> u64

@@ -1,6 +1,6 @@
-ghost use Rattle.std.specs.Prelude.{◌≡◌, ◌++◌, [], length, OnOk, OnErr, IfSome};
+ghost use Rattle.std.specs.Prelude.{◌≡◌, ◌++◌, ◌∷◌, [], length, OnOk, OnErr, IfSome};
 ghost use Rattle.std.specs.List.{flat_map};
-ghost use Rattle.oc_bytes.specs.Numbers.{byte, two_bytes, four_bytes, eight_bytes};
+ghost use Rattle.oc_bytes.specs.Numbers.{two_bytes, four_bytes, eight_bytes};
 
 use crate::NoMemory;
 use std::alloc::{AllocError, Global};
@@ -33,7 +33,7 @@ impl Writer {
 
     /// Puts a number in one byte.
     pub fn put_u8(&mut self, v: u8) -> Result<(), NoMemory>
-        ensures ok { OnOk result (self.new ≡ self.old ++ byte v) }
+        ensures ok { OnOk result (self.new ≡ self.old ++ v ∷ []) }
         ensures err { OnErr result (self.new ≡ self.old) }
     {
         self.bytes.push(v)?;

@@ -1,7 +1,7 @@
 ghost use Rattle.std.specs.Prelude.{◌≡◌, ◌≢◌, ◌≤◌, [], length, Ok, IfOk, IfSome, OnErr, IsTrue};
 ghost use Rattle.path_tree.specs.Paths.{PathNames};
 ghost use Rattle.path_tree.specs.Texts.{path_of};
-ghost use Rattle.path_resolver.specs.Shots.{held_of};
+ghost use Rattle.path_resolver.specs.Shots.{held_of, answers_of};
 ghost use Rattle.path_resolver.specs.Resolving.{Held, answer_of, is_shared};
 ghost use Rattle.std.specs.String.{string_bytes};
 ghost use Rattle.open_history.specs.Inner.Cached.{AreAnswersOn};
@@ -59,8 +59,8 @@ impl Answers {
     /// The answer to the path on the shot whose answers these are. It is kept, if there is memory for that.
     pub(crate) fn answer(&mut self, shot: &Shot, path: &Path) -> Result<Answer, NoMemory>
         requires { AreAnswersOn (held_of shot.now) self.old.kept.entries }
-        ensures answer { IfOk result (λ answer. answer ≡ answer_of (held_of shot.now) path.now) }
-        ensures memory { OnErr result (IsTrue (is_shared (answer_of (held_of shot.now) path.now))) }
+        ensures answer { IfOk result (λ answer. answer ≡ answers_of shot.now path.now) }
+        ensures memory { OnErr result (IsTrue (is_shared (answers_of shot.now path.now))) }
         ensures kept { AreAnswersOn (held_of shot.now) self.new.kept.entries }
         ensures on { self.new.on ≡ self.old.on }
     {

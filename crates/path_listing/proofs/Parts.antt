@@ -13,7 +13,8 @@ use Rattle.path_resolver.specs.Names.{is_first_in}
 use Rattle.path_resolver.specs.declared.answer.Answer.{Answer}
 use Rattle.path_resolver.specs.declared.answer.Answer.TheVariants as answers
 use Rattle.path_listing.specs.Firsts.{first_only}
-use Rattle.path_listing.specs.Walk.{names_in, folder_in, walk, all_paths, paths_below, paths_by, Lists}
+use Rattle.path_listing.specs.Walk.{names_in, walk, all_paths}
+use Rattle.path_listing.specs.Inner.Walk.{folder_in, paths_below, paths_by, Lists}
 use Rattle.path_listing.proofs.Firsts.{rest_of, first_only-append, rest_of-one}
 
 -- ---- listings one after another

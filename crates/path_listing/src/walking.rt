@@ -1,7 +1,7 @@
 ghost use Rattle.std.specs.Prelude.{◌≡◌, ◌<◌, ◌≤◌, ◌-◌, length, take, option_map, nat_le, IfOk};
-ghost use Rattle.path_resolver.specs.Resolving.{answer_of};
-ghost use Rattle.path_resolver.specs.Shots.{held_of};
-ghost use Rattle.path_listing.specs.Walk.{Lists, all_paths, folder_in, paths_below, paths_by, walk};
+ghost use Rattle.path_resolver.specs.Shots.{answers_of};
+ghost use Rattle.path_listing.specs.Walk.{all_paths, walk};
+ghost use Rattle.path_listing.specs.Inner.Walk.{Lists, folder_in, paths_below, paths_by};
 
 use oc_bytes::NoMemory;
 use path_resolver::{Answer, FolderRef, Shot, resolve};
@@ -27,9 +27,9 @@ pub struct Listing {
 /// Out of memory is the only refusal. These rules are this project's own.
 pub fn listed_paths(alloc: Global, shot: &Shot) -> Result<Listing, NoMemory>
     ensures paths { IfOk result (λ l.
-        l.paths.items ≡ take MOST_LISTED (all_paths (answer_of (held_of shot.now)))) }
+        l.paths.items ≡ take MOST_LISTED (all_paths (answers_of shot.now))) }
     ensures whole { IfOk result (λ l.
-        l.whole ≡ nat_le (length (all_paths (answer_of (held_of shot.now)))) MOST_LISTED) }
+        l.whole ≡ nat_le (length (all_paths (answers_of shot.now))) MOST_LISTED) }
 {
     let Ok(root) = Path::parse(alloc, b"/") else {
         return Err(AllocError);
@@ -44,7 +44,7 @@ pub fn listed_paths(alloc: Global, shot: &Shot) -> Result<Listing, NoMemory>
 fn list_from(shot: &Shot, path: Path, paths: &mut Vec<Path>) -> Result<bool, NoMemory>
     requires { length paths.old.items ≤ MOST_LISTED }
     ensures { IfOk result (λ whole.
-        Lists (walk (answer_of (held_of shot.now)) (MOST_NAMES - length path) path) paths.old.items
+        Lists (walk (answers_of shot.now) (MOST_NAMES - length path) path) paths.old.items
         paths.new.items whole) }
 {
     if paths.len() == MOST_LISTED {
@@ -73,8 +73,7 @@ fn list_names(
     requires room { length path.now < MOST_NAMES }
     requires few { length paths.old.items ≤ MOST_LISTED }
     ensures { IfOk result (λ whole.
-        Lists
-        (paths_below (answer_of (held_of shot.now)) (15 - length path.now) path.now folder.now)
+        Lists (paths_below (answers_of shot.now) (15 - length path.now) path.now folder.now)
         paths.old.items paths.new.items whole) }
 {
     for i in 0..folder.count() {
@@ -100,7 +99,7 @@ fn list_below(
     requires room { length path.now < MOST_NAMES }
     requires few { length paths.old.items ≤ MOST_LISTED }
     ensures { IfOk result (λ whole.
-        Lists (paths_by (answer_of (held_of shot.now)) (15 - length path.now) path.now name.now)
+        Lists (paths_by (answers_of shot.now) (15 - length path.now) path.now name.now)
         paths.old.items paths.new.items whole) }
 {
     match path.below(name)? {

@@ -2,9 +2,11 @@
 use Rattle.std.proofs.Common.{◌≡◌, ℕ, zero, suc, ◌+◌, List, [], ◌∷◌, drop, Option, Some, None, refl, sym, ap, ◌∙◌, add-one}
 use Rattle.std.proofs.lemmas.Option.{same_Some}
 use Rattle.std.specs.Prelude.{slice_get}
-use Rattle.path_tree.specs.Paths.{Bytes, PathNames}
+use Rattle.std.specs.List.{find}
+use Rattle.std.specs.Option.{option_and_then}
+use Rattle.path_tree.specs.Paths.{Bytes, PathNames, same_name}
 use Rattle.path_resolver.specs.declared.answer.Answer.{Answer}
-use Rattle.path_resolver.specs.Resolving.{Held, Target, goes_on, in_folder, by_binding, walk, turn}
+use Rattle.path_resolver.specs.Resolving.{Held, Target, goes_on, by_binding, walk, turn}
 use Rattle.path_resolver.specs.Inner.Targets.{BindingGoes, ObjectGoes}
 use Rattle.path_resolver.specs.declared.walking.Step.{Step}
 use Rattle.path_resolver.specs.declared.walking.Step.TheVariants as steps
@@ -34,10 +36,10 @@ goes carousel held path i name t next whole e h so_far =
 
 -- ---- a folder's first binding of the name
 
-in_folder_is : (rest : Target → Answer) (name : Bytes) (o : Option (List BindingFields)) → in_folder rest name o ≡ by_binding rest (binding_in name o)
-in_folder_is rest name (Some bindings) = refl
-in_folder_is rest name None = refl
+first_of_name : (name : Bytes) (o : Option (List BindingFields)) → option_and_then (λ bindings. find (λ b. same_name name b.name) bindings) o ≡ binding_in name o
+first_of_name name (Some bindings) = refl
+first_of_name name None = refl
 
 pub folder_goes : (name : Bytes) (m k : ℕ) (bytes : Bytes) (found : Found) (o : Option BindingFields) (step : Step) → found ≡ founds.Folder k → o ≡ binding_in name (bindings_of bytes k) → BindingGoes o step → ObjectGoes name m bytes found step
-folder_goes name m k bytes found o (steps.On next) is e h = λ rest. ap (goes_on rest name m bytes) is ∙ in_folder_is rest name (bindings_of bytes k) ∙ ap (by_binding rest) (sym e) ∙ h rest
-folder_goes name m k bytes found o (steps.Ends answer) is e h = λ rest. ap (goes_on rest name m bytes) is ∙ in_folder_is rest name (bindings_of bytes k) ∙ ap (by_binding rest) (sym e) ∙ h rest
+folder_goes name m k bytes found o (steps.On next) is e h = λ rest. ap (goes_on rest name m bytes) is ∙ ap (by_binding rest) (first_of_name name (bindings_of bytes k) ∙ sym e) ∙ h rest
+folder_goes name m k bytes found o (steps.Ends answer) is e h = λ rest. ap (goes_on rest name m bytes) is ∙ ap (by_binding rest) (first_of_name name (bindings_of bytes k) ∙ sym e) ∙ h rest

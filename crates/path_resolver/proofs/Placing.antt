@@ -2,6 +2,7 @@
 use Rattle.std.proofs.Common.{◌≡◌, ℕ, ◌+◌, Bool, true, false, List, drop, Option, Some, None, refl, sym, ap, ◌∙◌, add-one, if◌then◌else◌}
 use Rattle.std.specs.Prelude.{slice_get}
 use Rattle.std.specs.List.{find}
+use Rattle.std.specs.Option.{option_map_or, option_and_then}
 use Rattle.path_tree.specs.Paths.{Bytes, PathNames, same_name}
 use Rattle.biop_object.specs.Objects.{BindingFields}
 use Rattle.biop_object.specs.ObjectReading.{found_of, bindings_of}
@@ -10,7 +11,7 @@ use Rattle.biop_object.specs.declared.module.Found.TheVariants as found
 use Rattle.ior_tap.specs.Iors.{biop_of_profiles}
 use Rattle.path_resolver.specs.declared.answer.Answer.{Answer}
 use Rattle.path_resolver.specs.declared.answer.Answer.TheVariants as answers
-use Rattle.path_resolver.specs.Resolving.{Held, HeldModule, Target, is_elsewhere, module_of, unlisted, target_of, or_elsewhere, by_binding, in_folder, goes_on, in_bytes, in_module, turn}
+use Rattle.path_resolver.specs.Resolving.{Held, HeldModule, Target, is_elsewhere, module_of, unlisted, target_of, by_binding, goes_on, turn}
 use Rattle.path_resolver.specs.Places.{whole_bytes, bound_target, folder_target, target_by, target_in, next_target, last_target, module_at_end}
 use Rattle.path_resolver.proofs.Finding.{front_of}
 
@@ -23,7 +24,7 @@ by_next rest other None = other
 GoesBy : ((Target → Answer) → Answer) → Option Target → Type 0
 GoesBy walk next = (other : Answer) × ((rest : Target → Answer) → walk rest ≡ by_next rest other next)
 
-location_goes : (o : Option Target) → GoesBy (λ rest. or_elsewhere rest o) o
+location_goes : (o : Option Target) → GoesBy (λ rest. option_map_or rest o answers.Elsewhere) o
 unfolding by_next GoesBy
 location_goes (Some t) = (answers.Elsewhere, λ rest. refl)
 location_goes None = (answers.Elsewhere, λ rest. refl)
@@ -33,7 +34,7 @@ unfolding by_next GoesBy
 binding_goes (Some b) = location_goes (target_of (biop_of_profiles b.target.profiles))
 binding_goes None = (answers.NoSuch, λ rest. refl)
 
-folder_goes : (name : Bytes) (o : Option (List BindingFields)) → GoesBy (λ rest. in_folder rest name o) (folder_target name o)
+folder_goes : (name : Bytes) (o : Option (List BindingFields)) → GoesBy (λ rest. by_binding rest (option_and_then (λ bindings. find (λ b. same_name name b.name) bindings) o)) (folder_target name o)
 unfolding by_next GoesBy
 folder_goes name (Some bindings) = binding_goes (find (λ b. same_name name b.name) bindings)
 folder_goes name None = (answers.NoSuch, λ rest. refl)
@@ -46,26 +47,26 @@ object_goes name m bytes found.Other = (answers.OtherKind m, λ rest. refl)
 object_goes name m bytes (found.Bad place) = (answers.Bad m place, λ rest. refl)
 object_goes name m bytes found.Missing = (answers.Dangling m, λ rest. refl)
 
-bytes_go : (name : Bytes) (t : Target) (o : Option Bytes) → GoesBy (λ rest. in_bytes (λ bytes. goes_on rest name t.0.module bytes (found_of bytes t.0.key)) t.0.module o) (target_in name t o)
+bytes_go : (name : Bytes) (t : Target) (o : Option Bytes) → GoesBy (λ rest. option_map_or (λ bytes. goes_on rest name t.0.module bytes (found_of bytes t.0.key)) o (answers.NotYet t.0.module)) (target_in name t o)
 unfolding by_next GoesBy
 bytes_go name t (Some bytes) = object_goes name t.0.module bytes (found_of bytes t.0.key)
 bytes_go name t None = (answers.NotYet t.0.module, λ rest. refl)
 
 packed_goes : (name : Bytes) (t : Target) (h : HeldModule) (packed : Bool)
-    → GoesBy (λ rest. if packed then answers.Compressed t.0.module else in_bytes (λ bytes. goes_on rest name t.0.module bytes (found_of bytes t.0.key)) t.0.module h.bytes)
+    → GoesBy (λ rest. if packed then answers.Compressed t.0.module else option_map_or (λ bytes. goes_on rest name t.0.module bytes (found_of bytes t.0.key)) h.bytes (answers.NotYet t.0.module))
     (target_in name t (if packed then None else h.bytes))
 unfolding by_next GoesBy
 packed_goes name t h true = (answers.Compressed t.0.module, λ rest. refl)
 packed_goes name t h false = bytes_go name t h.bytes
 
 module_goes : (name : Bytes) (t : Target) (absent : Answer) (o : Option HeldModule)
-    → GoesBy (λ rest. in_module (λ bytes. goes_on rest name t.0.module bytes (found_of bytes t.0.key)) t.0.module absent o) (target_in name t (whole_bytes o))
+    → GoesBy (λ rest. option_map_or (λ (h : HeldModule). if h.line.compressed then answers.Compressed t.0.module else option_map_or (λ bytes. goes_on rest name t.0.module bytes (found_of bytes t.0.key)) h.bytes (answers.NotYet t.0.module)) o absent) (target_in name t (whole_bytes o))
 unfolding by_next GoesBy
 module_goes name t absent (Some h) = packed_goes name t h h.line.compressed
 module_goes name t absent None = (absent, λ rest. refl)
 
 elsewhere_goes : (held : Held) (name : Bytes) (t : Target) (elsewhere : Bool)
-    → GoesBy (λ rest. if elsewhere then answers.Elsewhere else in_module (λ bytes. goes_on rest name t.0.module bytes (found_of bytes t.0.key)) t.0.module (unlisted held t) (module_of held t))
+    → GoesBy (λ rest. if elsewhere then answers.Elsewhere else option_map_or (λ (h : HeldModule). if h.line.compressed then answers.Compressed t.0.module else option_map_or (λ bytes. goes_on rest name t.0.module bytes (found_of bytes t.0.key)) h.bytes (answers.NotYet t.0.module)) (module_of held t) (unlisted held t))
     (target_in name t (if elsewhere then None else whole_bytes (module_of held t)))
 unfolding by_next GoesBy
 elsewhere_goes held name t true = (answers.Elsewhere, λ rest. refl)

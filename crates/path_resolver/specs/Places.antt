@@ -7,7 +7,7 @@ use Rattle.biop_object.specs.Objects.{BindingFields}
 use Rattle.biop_object.specs.ObjectReading.{found_of, bindings_of}
 use Rattle.biop_object.specs.declared.module.Found.{Found}
 use Rattle.biop_object.specs.declared.module.Found.TheVariants as found
-use Rattle.path_resolver.specs.Resolving.{Held, HeldModule, Root, Target, is_elsewhere, module_of, target_of}
+use Rattle.path_resolver.specs.Resolving.{Held, HeldModule, Target, is_elsewhere, module_of, target_of}
 
 -- the bytes of a location's module, where it is held whole
 abbrev pub whole_bytes : Option HeldModule → Option Bytes
@@ -49,6 +49,6 @@ module_at_end None = None
 -- the module of the last location on the walk along all names, where the walk comes so far
 abbrev pub home_of : Held → PathNames → Option ℕ
 home_of held path = go held.gateway held.label where
-  go : Option Root → Option ℕ → Option ℕ
-  go (Some g) (Some label) = module_at_end (last_target g.location.carousel held path (Some (g.location, g.delivery)))
+  go : Option Target → Option ℕ → Option ℕ
+  go (Some g) (Some label) = module_at_end (last_target g.0.carousel held path (Some g))
   go _ _ = None

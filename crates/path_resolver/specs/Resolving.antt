@@ -1,6 +1,7 @@
 -- The answer to a path on what a receiver holds.
 use Rattle.std.specs.Prelude.{ℕ, Bool, true, false, not, ◌&&◌, ◌||◌, List, [], ◌∷◌, take, drop, Option, Some, None, ◌==◌, if◌then◌else◌}
 use Rattle.std.specs.List.{find, list_any}
+use Rattle.std.specs.Option.{option_map_or, option_and_then}
 use Rattle.path_tree.specs.Paths.{Bytes, PathNames, same_name}
 use Rattle.ior_tap.specs.Iors.{TapFields, biop_of_profiles, delivery_of_taps}
 use Rattle.ior_tap.specs.declared.Location.{Location}
@@ -20,20 +21,16 @@ pub record HeldModule : Type 0 where
   pub line : ModuleLine
   pub bytes : Option Bytes
 
-pub record Root : Type 0 where
-  pub location : Location
-  pub delivery : Option ℕ
+-- a location and the transactionId of its delivery, where it is known
+abbrev pub Target : Type 0
+Target = Location × Option ℕ
 
 -- what an answer depends on: the DIIs that are held are given by their identifications, in the order in which they were heard
 pub record Held : Type 0 where
   pub label : Option ℕ
   pub held : List ℕ
-  pub gateway : Option Root
+  pub gateway : Option Target
   pub table : List HeldModule
-
--- a location and the transactionId of its delivery, where it is known
-abbrev pub Target : Type 0
-Target = Location × Option ℕ
 
 -- of another carousel, or delivered by a DII that never describes modules
 abbrev pub is_elsewhere : ℕ → Target → Bool
@@ -54,18 +51,10 @@ abbrev pub target_of : Option (Location × List TapFields) → Option Target
 target_of (Some (l, taps)) = Some (l, delivery_of_taps taps)
 target_of None = None
 
-abbrev pub or_elsewhere : (Target → Answer) → Option Target → Answer
-or_elsewhere rest (Some t) = rest t
-or_elsewhere rest None = answers.Elsewhere
-
 -- where the first binding of a name leads
 abbrev pub by_binding : (Target → Answer) → Option BindingFields → Answer
-by_binding rest (Some b) = or_elsewhere rest (target_of (biop_of_profiles b.target.profiles))
+by_binding rest (Some b) = option_map_or rest (target_of (biop_of_profiles b.target.profiles)) answers.Elsewhere
 by_binding rest None = answers.NoSuch
-
-abbrev pub in_folder : (Target → Answer) → Bytes → Option (List BindingFields) → Answer
-in_folder rest name (Some bindings) = by_binding rest (find (λ b. same_name name b.name) bindings)
-in_folder rest name None = answers.NoSuch
 
 -- at an object: no name is left
 abbrev pub answer_at_end : ℕ → Bytes → Found → Answer
@@ -78,39 +67,34 @@ answer_at_end m bytes found.Missing = answers.Dangling m
 -- at an object: a name is left
 abbrev pub goes_on : (Target → Answer) → Bytes → ℕ → Bytes → Found → Answer
 goes_on rest name m bytes (found.File span) = answers.NoSuch
-goes_on rest name m bytes (found.Folder k) = in_folder rest name (bindings_of bytes k)
+goes_on rest name m bytes (found.Folder k) =
+    by_binding rest (option_and_then (λ bindings. find (λ b. same_name name b.name) bindings)
+    (bindings_of bytes k))
 goes_on rest name m bytes found.Other = answers.OtherKind m
 goes_on rest name m bytes (found.Bad place) = answers.Bad m place
 goes_on rest name m bytes found.Missing = answers.Dangling m
 
-abbrev pub in_bytes : (Bytes → Answer) → ℕ → Option Bytes → Answer
-in_bytes object m (Some bytes) = object bytes
-in_bytes object m None = answers.NotYet m
-
--- `absent` is the answer where the module isn't listed
-abbrev pub in_module : (Bytes → Answer) → ℕ → Answer → Option HeldModule → Answer
-in_module object m absent None = absent
-in_module object m absent (Some h) = if h.line.compressed then answers.Compressed m else in_bytes object m h.bytes
-
 abbrev pub at_target : ℕ → Held → (Bytes → Answer) → Target → Answer
-at_target carousel held object t = if is_elsewhere carousel t then answers.Elsewhere else in_module object t.0.module (unlisted held t) (module_of held t)
-
--- at a location, where no name is left
-abbrev pub last : ℕ → Held → Target → Answer
-last carousel held t = at_target carousel held (λ bytes. answer_at_end t.0.module bytes (found_of bytes t.0.key)) t
+at_target carousel held object t =
+    if is_elsewhere carousel t then answers.Elsewhere
+    else option_map_or
+    (λ h. if h.line.compressed then answers.Compressed t.0.module
+    else option_map_or object h.bytes (answers.NotYet t.0.module))
+    (module_of held t) (unlisted held t)
 
 -- at a location, where a name is left: `rest` is the walk from the next location on
 abbrev pub turn : ℕ → Held → (Target → Answer) → Bytes → Target → Answer
 turn carousel held rest name t = at_target carousel held (λ bytes. goes_on rest name t.0.module bytes (found_of bytes t.0.key)) t
 
 abbrev pub walk : ℕ → Held → PathNames → Target → Answer
-walk carousel held [] t = last carousel held t
+walk carousel held [] t =
+    at_target carousel held (λ bytes. answer_at_end t.0.module bytes (found_of bytes t.0.key)) t
 walk carousel held (n ∷ ns) t = turn carousel held (walk carousel held ns) n t
 
 abbrev pub answer_of : Held → PathNames → Answer
 answer_of held path = go held.gateway held.label where
-  go : Option Root → Option ℕ → Answer
-  go (Some g) (Some label) = walk g.location.carousel held path (g.location, g.delivery)
+  go : Option Target → Option ℕ → Answer
+  go (Some g) (Some label) = walk g.0.carousel held path g
   go _ _ = answers.NoCarousel
 
 -- the answer shares a module

@@ -21,7 +21,8 @@ impl Model for FileRef {
 
     ghost Value = { Bytes };
 
-    ghost use Rattle.path_resolver.specs.Shared.{view_file, IsFileRef};
+    ghost use Rattle.path_resolver.specs.Shared.{view_file};
+    ghost use Rattle.path_resolver.specs.Inner.Shared.{IsFileRef};
 
     ghost view = { view_file };
 
@@ -72,7 +73,8 @@ impl Model for FolderRef {
 
     ghost Value = { List Bytes };
 
-    ghost use Rattle.path_resolver.specs.Shared.{view_folder, IsFolderRef};
+    ghost use Rattle.path_resolver.specs.Shared.{view_folder};
+    ghost use Rattle.path_resolver.specs.Inner.Shared.{IsFolderRef};
 
     ghost view = { view_folder };
 

@@ -1,13 +1,13 @@
-ghost use Rattle.std.specs.Prelude.{◌≡◌, Some, IsTrue, IfOk, OnErr, MatchResult};
+ghost use Rattle.std.specs.Prelude.{◌≡◌, [], Some, IsTrue, IfOk, OnErr, MatchResult};
 ghost use Rattle.std.specs.Option.{option_map};
 ghost use Rattle.std.specs.Arc.{arc_value};
 ghost use Rattle.biop_object.specs.Objects.{view_binding};
 ghost use Rattle.biop_object.specs.ObjectReading.{found_of};
 ghost use Rattle.path_resolver.specs.Resolving as resolving;
-ghost use Rattle.path_resolver.specs.Resolving.{answer_of, last, walk, module_of, is_shared};
+ghost use Rattle.path_resolver.specs.Resolving.{answer_of, walk, module_of, is_shared};
 ghost use Rattle.path_resolver.specs.Places as places;
 ghost use Rattle.path_resolver.specs.Places.{last_target, module_at_end};
-ghost use Rattle.path_resolver.specs.Shots.{held_of, view_listed};
+ghost use Rattle.path_resolver.specs.Shots.{held_of, view_listed, answers_of};
 ghost use Rattle.path_resolver.specs.Inner.Targets.{view_target, BindingGoes, ObjectGoes, StepGoes, IsModuleAt, IsNoModule};
 
 use crate::answer::{Answer, FileRef, FolderRef};
@@ -126,9 +126,9 @@ fn object_answer(module: &Arc<Module>, location: &Location) -> Result<Answer, No
 /// The answer at a location, where no name is left.
 fn end_of<H: Holding>(held: &H, carousel: u32, target: &Target) -> Result<Answer, NoMemory>
     ensures answer { IfOk result (λ a.
-        a ≡ last carousel (H.state held.now) (view_target target.now)) }
+        a ≡ walk carousel (H.state held.now) [] (view_target target.now)) }
     ensures memory { OnErr result
-        (IsTrue (is_shared (last carousel (H.state held.now) (view_target target.now)))) }
+        (IsTrue (is_shared (walk carousel (H.state held.now) [] (view_target target.now)))) }
 {
     match module_at(held, carousel, target) {
         Ok(module) => object_answer(module, target.location),
@@ -247,8 +247,8 @@ pub fn home_of(shot: &Shot, path: &Path) -> Option<u16>
 /// `NoSuch` where there is none, `Elsewhere` where its IOR has no location. (ETSI TR 101 202, clauses 4.7.4 and
 /// 4.7.5; the order is this project's own rule.)
 pub fn resolve(shot: &Shot, path: &Path) -> Result<Answer, NoMemory>
-    ensures answer { IfOk result (λ a. a ≡ answer_of (held_of shot.now) path.now) }
-    ensures memory { OnErr result (IsTrue (is_shared (answer_of (held_of shot.now) path.now))) }
+    ensures answer { IfOk result (λ a. a ≡ answers_of shot.now path.now) }
+    ensures memory { OnErr result (IsTrue (is_shared (answers_of shot.now path.now))) }
 {
     answer_on(shot, path)
 }

@@ -4,10 +4,8 @@ use Rattle.std.specs.List.{All}
 use Rattle.std.specs.Ordering.{nat_cmp}
 use Rattle.std.specs.Cmp.Lexicographic.{slice_cmp, pointwise}
 use Rattle.std.specs.declared.cmp.Ordering.{Ordering}
+pub use Rattle.oc_bytes.specs.Numbers.{Bytes}
 use Rattle.path_tree.specs.declared.text.TheConstants.{MOST_NAMES}
-
-abbrev pub Bytes : Type 0
-Bytes = List ℕ
 
 abbrev pub PathNames : Type 0
 PathNames = List Bytes

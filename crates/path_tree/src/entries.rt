@@ -1,8 +1,9 @@
 //! Searches among a tree's entries, which stand in the order of paths: what lies below a path stands right
 //! after it, and a file that it leads through right before it.
-ghost use Rattle.std.specs.Prelude.{◌≡◌, ◌≢◌, ◌≤◌, ◌||◌, ◌==◌, [], length, IfOk, OnOk, OnErr};
+ghost use Rattle.std.specs.Prelude.{◌≡◌, ◌≢◌, ◌≤◌, ◌||◌, ◌==◌, [], length, OnOk, OnErr};
 ghost use Rattle.std.specs.List.{dedup};
 ghost use Rattle.std.specs.Option.{option_map};
+ghost use Rattle.oc_bytes.specs.Outcome.{MakesList};
 ghost use Rattle.path_tree.specs.Paths.{same_name, IsPath};
 ghost use Rattle.path_tree.specs.Trees.{IsTree, is_kept, entry_at, content_at, leads_on, is_folder, next_names, names_below};
 ghost use Rattle.path_tree.specs.Inner.Places.{place_in, first_at, beyond, first_is_below, last_is_above, count_below, last_name_is, with_name};
@@ -142,8 +143,7 @@ fn list_name(names: &mut Vec<Name>, name: &Name) -> Result<(), NoMemory>
 
 /// The next names below the path of entries that all lie below it, each once.
 fn next_names(alloc: Global, entries: &[(Path, Entry)], path: &Path) -> Result<Vec<Name>, NoMemory>
-    ensures names { IfOk result (λ names.
-        names.items ≡ dedup same_name (next_names entries.now path.now)) }
+    ensures names { MakesList result (dedup same_name (next_names entries.now path.now)) }
     ensures no_memory { OnErr result (next_names entries.now path.now ≢ []) }
 {
     let mut names = Vec::new(alloc);
@@ -165,7 +165,7 @@ pub(crate) fn names_below(
     requires tree { IsTree entries.now }
     requires place { place ≡ place_in entries.now path.now }
     requires within { place ≤ length entries.now }
-    ensures names { IfOk result (λ names. names.items ≡ names_below entries.now path.now) }
+    ensures names { MakesList result (names_below entries.now path.now) }
     ensures no_memory { OnErr result (names_below entries.now path.now ≢ []) }
 {
     let behind = beyond(&entries[place..], path);

@@ -117,7 +117,7 @@ impl Model for Path {
 }
 
 impl Path {
-    ghost use Rattle.oc_bytes.specs.Outcome.{Gives};
+    ghost use Rattle.oc_bytes.specs.Outcome.{Gives, Spells};
     ghost use Rattle.path_tree.specs.Paths.{IsPath, path_cmp, is_below, same_path, next_name};
     ghost use Rattle.path_tree.specs.Texts.{path_of, text_of, text_cause, with_below};
     ghost use Rattle.std.specs.String.{string_bytes};
@@ -260,7 +260,7 @@ impl Path {
     /// The path's text, which `parse` reads as this path: bytes 0x21 to 0x7E other than `%` and `/` stand
     /// as themselves, and all others as `%` with two upper case hexadecimal digits.
     pub fn print(&self) -> Result<String, NoMemory>
-        ensures text { IfOk result (λ text. string_bytes text ≡ text_of self.now) }
+        ensures text { Spells result (text_of self.now) }
         ensures parses { IfOk result (λ text. path_of (string_bytes text) ≡ Ok self.now) }
     {
         let alloc = *self.names.allocator();

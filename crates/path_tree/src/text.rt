@@ -1,10 +1,9 @@
 //! The texts of names: escapes read and written.
-ghost use Rattle.std.specs.Prelude.{◌≡◌, true, ◌<◌, ◌++◌, length, drop, position, is_some, Ok, IfOk, IfSome, IsErrOf, OnOk, option_map, ◌==◌, ◌&&◌, not, nat_le, Some};
+ghost use Rattle.std.specs.Prelude.{◌≡◌, true, ◌<◌, length, drop, position, is_some, Ok, IfOk, IfSome, IsErrOf, option_map, ◌==◌, ◌&&◌, not, nat_le, Some};
 ghost use Rattle.std.specs.List.{list_any, flat_map};
-ghost use Rattle.std.specs.String.{string_bytes};
 ghost use Rattle.std.specs.Fmt.{DisplaysOnOk};
 ghost use Rattle.oc_bytes.specs.Numbers.{IsBytes};
-ghost use Rattle.oc_bytes.specs.Outcome.{Gives};
+ghost use Rattle.oc_bytes.specs.Outcome.{Gives, Spells, AddsText};
 ghost use Rattle.path_tree.specs.Paths.{IsName, IsPath};
 ghost use Rattle.path_tree.specs.Texts.{digit, upper_digit, printed_byte, printed_name, text_cause, is_name, is_slash, is_zero_or_slash, undo_escapes, name_of, names_after};
 ghost use Rattle.path_tree.specs.Inner.Steps.{byte_of_digits, Undoes, IsNameAt, Cuts, verdict_of};
@@ -202,7 +201,7 @@ fn is_plain(byte: u8) -> bool
 }
 
 fn push_byte(text: &mut String, byte: u8) -> Result<(), NoMemory>
-    ensures { OnOk result (string_bytes text.new ≡ string_bytes text.old ++ printed_byte byte) }
+    ensures { AddsText result text.old text.new (printed_byte byte) }
 {
     if is_plain(byte) {
         return text.push(char::from(byte));
@@ -214,7 +213,7 @@ fn push_byte(text: &mut String, byte: u8) -> Result<(), NoMemory>
 
 /// A name's text as it stands on a line of its own: that of a path without the `/` in front, for any bytes.
 pub fn print_name(alloc: Global, name: &[u8]) -> Result<String, NoMemory>
-    ensures { IfOk result (λ text. string_bytes text ≡ flat_map printed_byte name.now) }
+    ensures { Spells result (flat_map printed_byte name.now) }
 {
     let mut text = String::new(alloc);
     for byte in name {
@@ -225,7 +224,7 @@ pub fn print_name(alloc: Global, name: &[u8]) -> Result<String, NoMemory>
 
 /// Writes `/` and a name's text.
 pub(crate) fn push_name(text: &mut String, name: &[u8]) -> Result<(), NoMemory>
-    ensures { OnOk result (string_bytes text.new ≡ string_bytes text.old ++ printed_name name.now) }
+    ensures { AddsText result text.old text.new (printed_name name.now) }
 {
     text.push('/')?;
     for byte in name {

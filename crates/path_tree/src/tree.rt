@@ -2,7 +2,7 @@ ghost use Rattle.std.specs.Prelude.{◌≡◌, ◌≤◌, ◌<◌, [], length, s
 ghost use Rattle.std.specs.BTreeMap.{insert_entry};
 ghost use Rattle.std.specs.Option.{option_map};
 ghost use Rattle.oc_bytes.specs.Numbers.{IsBytes};
-ghost use Rattle.oc_bytes.specs.Outcome.{Gives};
+ghost use Rattle.oc_bytes.specs.Outcome.{Gives, MakesList};
 ghost use Rattle.path_tree.specs.Edits.{apply_all, apply_cause, fault_of, first_fault, after_edit, path_in, IsEdit};
 ghost use Rattle.path_tree.specs.Paths.{IsPath, path_cmp};
 ghost use Rattle.path_tree.specs.Inner.Places.{place_in};
@@ -327,7 +327,7 @@ fn made_at(entries: &[(Path, Entry)], i: usize) -> Option<&Path>
 
 /// A tree's entries again, none of whose bytes are copied.
 fn shared(alloc: Global, entries: &[(Path, Entry)]) -> Result<Vec<(Path, Entry)>, NoMemory>
-    ensures { IfOk result (λ copy. copy.items ≡ entries.now) }
+    ensures { MakesList result entries.now }
 {
     let mut copy = Vec::with_capacity(alloc, entries.len())?;
     for (path, entry) in entries {

@@ -12,7 +12,7 @@ use Rattle.psi_tables.specs.declared.followed.Followed.{Followed}
 use Rattle.psi_tables.specs.Receiving.{is_pid, pid_of}
 use Rattle.psi_tables.specs.Finding.{choose, first_of_each, is_in, is_program, listed_pids}
 use Rattle.psi_tables.specs.Stands.{FollowedState, Hears, Follows, FollowsEach, view_followed, named_for}
-use Rattle.psi_tables.specs.Steps.{Each, Heard, becomes_followed}
+use Rattle.psi_tables.specs.Inner.Steps.{Each, Heard, becomes_followed}
 use Rattle.psi_tables.proofs.Programs.{hears_still}
 
 -- ---- one packet

@@ -6,9 +6,11 @@ use Rattle.std.specs.Option.{option_map}
 use Rattle.std.proofs.lemmas.Bool.{ne_eqb, eq-eqb}
 use Rattle.std.proofs.lemmas.List.{append-nil, map-append}
 use Rattle.std.proofs.lemmas.List.Elements.{filter-append}
+use Rattle.carousel_profile.specs.declared.TheConstants.{PACKET_LENGTH}
 use Rattle.ts_packet.specs.Packets.{Fields, parse_packet}
 use Rattle.ts_packet.specs.declared.PacketFault.{PacketFault}
-use Rattle.section_stream.specs.Cuts.{Bytes, Received, Cut, kept_of, payloads_in, is_repeat, without_repeats_of, without_repeats, pointer_of, pointer_fits, going_on, whole_len, opened_in, cuts_at, cuts_of, candidates}
+use Rattle.std.specs.Str.{bytes_eq}
+use Rattle.section_stream.specs.Cuts.{Bytes, Received, Cut, kept_of, payloads_in, without_repeats_of, without_repeats, pointer_of, pointer_fits, going_on, whole_len, opened_in, cuts_at, cuts_of, candidates}
 use Rattle.section_stream.specs.Rules as streams
 use Rattle.psi_tables.specs.Receiving.{pid_in, pid_of, is_pid, of_pid, HeardOn}
 
@@ -25,7 +27,7 @@ bytes_of cs = map (λ c. c.bytes) cs
 
 repeats_plain : (a : Received) (bs : List Received) → without_repeats_of (unnumbered a) (plain bs) ≡ plain (without_repeats_of a bs)
 repeats_plain a [] = refl
-repeats_plain a (b ∷ bs) = go (is_repeat a b) (repeats_plain b bs) where
+repeats_plain a (b ∷ bs) = go ((a.counter == b.counter) && bytes_eq a.payload b.payload) (repeats_plain b bs) where
   go : (t : Bool) → without_repeats_of (unnumbered b) (plain bs) ≡ plain (without_repeats_of b bs)
       → cond t (without_repeats_of (unnumbered b) (plain bs)) (unnumbered b ∷ without_repeats_of (unnumbered b) (plain bs)) ≡ plain (cond t (without_repeats_of b bs) (b ∷ without_repeats_of b bs))
   go true later = later
@@ -60,8 +62,8 @@ at_plain p ps = go (p.start && pointer_fits p) where
   here : Bytes
   here = drop (1 + pointer_of p) p.payload
 
-  go : (t : Bool) → bytes_of (cond t (opened_in 188 0 here (going_on p.counter (plain ps))) []) ≡ bytes_of (cond t (opened_in 188 p.number here (going_on p.counter ps)) [])
-  go true = ap (λ (later : Bytes). bytes_of (opened_in 188 0 here later)) (going_plain p.counter ps) ∙ opened_plain 188 0 p.number here (going_on p.counter ps)
+  go : (t : Bool) → bytes_of (cond t (opened_in PACKET_LENGTH 0 here (going_on p.counter (plain ps))) []) ≡ bytes_of (cond t (opened_in PACKET_LENGTH p.number here (going_on p.counter ps)) [])
+  go true = ap (λ (later : Bytes). bytes_of (opened_in PACKET_LENGTH 0 here later)) (going_plain p.counter ps) ∙ opened_plain PACKET_LENGTH 0 p.number here (going_on p.counter ps)
   go false = refl
 
 cuts_plain : (rs : List Received) → bytes_of (cuts_of (plain rs)) ≡ bytes_of (cuts_of rs)

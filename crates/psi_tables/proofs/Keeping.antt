@@ -13,9 +13,11 @@ use Rattle.std.specs.declared.vec.Vec.{Vec}
 use Rattle.std.specs.declared.alloc.Global.{Global}
 use Rattle.section_stream.specs.Kept.{view_bytes}
 use Rattle.psi_tables.specs.Pats.{PatFields, view_pat}
-use Rattle.psi_tables.specs.Finding.{choose, listed_pids, listed_by, listings, arrivals, arrivals_of, completed_by, is_section, newest_in, section_among, list_of, pat_in, pats_among, pats_in, pmts_in, pmt_among, pmt_of_line, names, followed_in, lines_in_section, found_with, found_in}
-use Rattle.psi_tables.specs.Stands.{FollowedState, DirectoryState, Hears, FollowsEach, Keeps, named_for, named_by, section_kept, found_by, view_directory}
-use Rattle.psi_tables.specs.Steps.{put, Each, Heard}
+use Rattle.psi_tables.specs.Finding.{choose, listed_pids, listings, arrivals, arrivals_of, completed_by, is_section, newest_in, section_among, pat_in, pats_among, pats_in, pmts_in, pmt_among, pmt_of_line, names, followed_in, lines_in_section, found_with, found_in}
+use Rattle.psi_tables.specs.Inner.Finding.{listed_by, list_of}
+use Rattle.psi_tables.specs.Stands.{FollowedState, DirectoryState, Hears, FollowsEach, Keeps, named_for, section_kept, view_directory}
+use Rattle.psi_tables.specs.Inner.Stands.{named_by, found_by}
+use Rattle.psi_tables.specs.Inner.Steps.{put, Each, Heard}
 use Rattle.psi_tables.proofs.Lists.{found_put, found_still, last_more, last_where_here, last_where_still}
 use Rattle.psi_tables.proofs.Following.{Goes}
 

@@ -1,5 +1,4 @@
 pub mod Runs
-pub mod Checks
 pub mod Sections
 pub mod Lines
 pub mod Streams

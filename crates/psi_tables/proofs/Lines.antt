@@ -3,11 +3,13 @@ use Rattle.std.proofs.Common.{ℕ, suc, ◌≡◌, ◌/◌, ◌%◌, ◌<◌, Bo
 use Rattle.std.proofs.lemmas.Bool.{eqb-true, eq-eqb}
 use Rattle.std.specs.declared.vec.Vec.{Vec}
 use Rattle.std.specs.declared.alloc.Global.{Global}
-use Rattle.psi_tables.specs.declared.frame.Frame.{Frame}
+use Rattle.long_section.specs.declared.Frame.{Frame}
 use Rattle.psi_tables.specs.declared.tables.PatLine.{PatLine}
-use Rattle.psi_tables.specs.Frames.{Fields, view, header_fault, crc_fault, fields_of, or_else}
+use Rattle.long_section.specs.Frames.{Fields, fields_of, fields_with}
+use Rattle.long_section.proofs.CallerLemmas.{AreBytes}
+use Rattle.psi_tables.specs.Frames.{header_fault, crc_fault, or_else}
 use Rattle.psi_tables.specs.Pats.{PatFields, view_pat, ReadsLine, ReadsLines, ReadsPat, line_of, lines_in, lines_fault, pat_fault, pat_of, read_pat, ok_unless}
-use Rattle.psi_tables.proofs.Sections.{AreBytes, section_found, section_again}
+use Rattle.psi_tables.proofs.Sections.{section_found, section_again}
 
 line_found : (a b c d : ℕ) → a < 256 → b < 256 → c < 256 → d < 256 → ReadsLine (a ∷ b ∷ c ∷ d ∷ []) (line_of a b c d)
 line_found a b c d ha hb hc hd = record {
@@ -96,6 +98,6 @@ pat_read bytes p h =
       okay q = Ok q
 
 -- what the code makes of a frame and its lines is what the fields of the section give
-pub pat_is : (frame : Frame) (lines : Vec PatLine Global) (f : Fields) → view frame ≡ f → lines.items ≡ lines_in frame.body.now
-    → pat_of f ≡ view_pat (record { stream = frame.extension; version = frame.version; number = frame.number; lines = lines })
-pat_is frame lines f e g = ap pat_of (sym e) ∙ ap (pat_with frame.extension frame.version frame.number) (sym g)
+pub pat_is : (frame : Frame) (lines : Vec PatLine Global) (f : Fields) → fields_with frame.header frame.body.now ≡ f → lines.items ≡ lines_in frame.body.now
+    → pat_of f ≡ view_pat (record { stream = frame.header.extension; version = frame.header.version; number = frame.header.number; lines = lines })
+pat_is frame lines f e g = ap pat_of (sym e) ∙ ap (pat_with frame.header.extension frame.header.version frame.header.number) (sym g)

@@ -4,7 +4,7 @@ use Rattle.std.proofs.Math.ListN.{set}
 use Rattle.std.specs.List.{filter, find, last_or, position_from}
 use Rattle.std.specs.Option.{option_map}
 use Rattle.psi_tables.specs.Finding.{last_where}
-use Rattle.psi_tables.specs.Steps.{put}
+use Rattle.psi_tables.specs.Inner.Steps.{put}
 
 -- ---- put
 

@@ -12,10 +12,12 @@ use Rattle.psi_tables.specs.declared.tables.Pmt.{Pmt}
 use Rattle.psi_tables.specs.declared.followed.Program.{Program}
 use Rattle.psi_tables.specs.declared.followed.Followed.{Followed}
 use Rattle.psi_tables.specs.Pmts.{PmtFields, LineFields, view_pmt, view_line}
-use Rattle.psi_tables.specs.Finding.{names, is_in, pmt_in, pmt_among, list_of}
+use Rattle.psi_tables.specs.Finding.{names, is_in, pmt_in, pmt_among}
+use Rattle.psi_tables.specs.Inner.Finding.{list_of}
 use Rattle.psi_tables.specs.Receiving.{HeardOn, is_pid, pid_of}
-use Rattle.psi_tables.specs.Stands.{FollowedState, Hears, view_followed, named_for, named_by}
-use Rattle.psi_tables.specs.Steps.{put, after_pmt, after_pmts}
+use Rattle.psi_tables.specs.Stands.{FollowedState, Hears, view_followed, named_for}
+use Rattle.psi_tables.specs.Inner.Stands.{named_by}
+use Rattle.psi_tables.specs.Inner.Steps.{put, after_pmt, after_pmts}
 use Rattle.psi_tables.proofs.Hearing.{heard_still, cuts_still}
 use Rattle.psi_tables.proofs.Lists.{find_seen, found_put, found_still, last_where_here, last_where_still}
 

@@ -1,6 +1,7 @@
 -- The written tables against their bytes, byte for byte, and small tables with each place of a fault.
 use Rattle.std.specs.Prelude.{◌≡◌, [], ◌∷◌, Some, refl}
-use Rattle.psi_tables.specs.Frames.{prefix_with, header_fault}
+use Rattle.long_section.specs.Frames.{prefix_with}
+use Rattle.psi_tables.specs.Frames.{header_fault}
 use Rattle.psi_tables.specs.Pats.{lines_fault}
 use Rattle.psi_tables.specs.Pmts.{body_fault, carousels_in}
 use Rattle.psi_tables.specs.Written.{written_pat_fields, written_pmt_fields}

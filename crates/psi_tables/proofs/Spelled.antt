@@ -2,24 +2,24 @@
 use Rattle.std.proofs.Common.{ℕ, ◌≡◌, ◌<◌, List, [], ◌∷◌, ◌++◌, refl, sym, ap, arith, lit<, lit≤}
 use Rattle.oc_bytes.specs.Numbers.{two_bytes, four_bytes, number_of}
 use Rattle.section_stream.specs.Packing.{IsSectionLike}
-use Rattle.psi_tables.specs.Frames.{Fits}
+use Rattle.long_section.specs.Frames.{Fits}
+use Rattle.long_section.proofs.CallerLemmas.{spelling_is_frame}
 use Rattle.psi_tables.specs.Pats.{ReadsPat, line_bytes}
 use Rattle.psi_tables.specs.Pmts.{ReadsPmt, ReadsBody, Stream, carousels_in}
 use Rattle.psi_tables.specs.Written.{written_line, written_pat_fields, pat_spelling, pat_value, stream_info, written_body, written_pmt_fields, pmt_spelling, pmt_value}
-use Rattle.psi_tables.proofs.Sections.{spelling_is_section}
 
-pat_fits : Fits written_pat_fields
+pat_fits : Fits 1021 written_pat_fields
 pat_fits = record { extension = lit< tt; version = lit< tt; number = lit< tt; last = lit< tt; body = lit≤ tt }
 
 pub pat_reads : ReadsPat pat_spelling pat_value
 pat_reads = record {
   last = 0;
   body = line_bytes 7 written_line;
-  section = spelling_is_section 0x00 written_pat_fields pat_fits;
+  section = spelling_is_frame 1021 0x00 written_pat_fields pat_fits;
   lines = (line_bytes 7 written_line, [], refl, record { reserved = 7; ranges = (lit< tt, lit< tt, lit< tt); whole = refl }, refl);
 }
 
-pmt_fits : (carousel : ℕ) → Fits (written_pmt_fields carousel)
+pmt_fits : (carousel : ℕ) → Fits 1021 (written_pmt_fields carousel)
 pmt_fits carousel = record { extension = lit< tt; version = lit< tt; number = lit< tt; last = lit< tt; body = omega arith }
 
 four_again : (n : ℕ) → n < 4294967296 → number_of (four_bytes n) ≡ n
@@ -52,7 +52,7 @@ pub pmt_reads : (carousel : ℕ) → carousel < 4294967296 → ReadsPmt (pmt_spe
 pmt_reads carousel lt = record {
   fields = written_pmt_fields carousel;
   streams = record { kind = 0x0B; pid = 256; info = stream_info carousel } ∷ [];
-  section = spelling_is_section 0x02 (written_pmt_fields carousel) (pmt_fits carousel);
+  section = spelling_is_frame 1021 0x02 (written_pmt_fields carousel) (pmt_fits carousel);
   body = body_reads carousel;
   program = refl;
   lines = ap (λ (cs : List ℕ). record { pid = 256; carousels = cs } ∷ []) (sym (names_it carousel lt));

@@ -6,9 +6,11 @@ use Rattle.section_stream.specs.Rules as streams
 use Rattle.std.specs.List.{list_any}
 use Rattle.psi_tables.specs.declared.directory.Directory.{Directory}
 use Rattle.psi_tables.specs.Receiving.{pid_of, is_pid, HeardOn}
-use Rattle.psi_tables.specs.Finding.{followed_in, is_in, pats_in, pats_among, listings, listed_by, found_in}
-use Rattle.psi_tables.specs.Stands.{DirectoryState, FinderState, Keeps, Holds, FollowsEach, view_directory, view_followed, found_by, heard_on, is_heard}
-use Rattle.psi_tables.specs.Steps.{Each, Heard, TablesHeard}
+use Rattle.psi_tables.specs.Finding.{followed_in, is_in, pats_in, pats_among, listings, found_in}
+use Rattle.psi_tables.specs.Inner.Finding.{listed_by}
+use Rattle.psi_tables.specs.Stands.{DirectoryState, FinderState, Keeps, Holds, FollowsEach, view_directory, view_followed, heard_on, is_heard}
+use Rattle.psi_tables.specs.Inner.Stands.{found_by}
+use Rattle.psi_tables.specs.Inner.Steps.{Each, Heard, TablesHeard}
 use Rattle.psi_tables.proofs.Keeping.{keeps_step, keeps_as, pats_more, listings_more, found_is, found_stays}
 use Rattle.psi_tables.proofs.Following.{nobody_hears, follows_pids, seen_pid}
 use Rattle.psi_tables.proofs.Hearing.{heard_still, cuts_still}

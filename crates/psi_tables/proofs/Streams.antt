@@ -8,12 +8,15 @@ use Rattle.std.specs.declared.vec.Vec.{Vec}
 use Rattle.std.specs.declared.alloc.Global.{Global}
 use Rattle.oc_bytes.specs.Numbers.{two_bytes}
 use Rattle.psi_tables.specs.declared.tables.PmtLine.{PmtLine}
-use Rattle.psi_tables.specs.declared.frame.Frame.{Frame}
-use Rattle.psi_tables.specs.Frames.{Fields, view, header_fault, crc_fault, fields_of}
+use Rattle.long_section.specs.declared.Frame.{Frame}
+use Rattle.long_section.specs.Frames.{Fields, fields_of, fields_with}
+use Rattle.long_section.proofs.CallerLemmas.{AreBytes}
+use Rattle.oc_bytes.specs.Descriptors.{run, onto_run}
+use Rattle.psi_tables.specs.Frames.{header_fault, crc_fault}
 use Rattle.psi_tables.specs.Pats.{ok_unless}
-use Rattle.psi_tables.specs.Pmts.{run, onto_run, Stream, next_stream, ReadsStream, ReadsStreams, ReadsBody, ReadsPmt, PmtFields, LineFields, lines_of, info_length, stream_bytes, streams_run, left_fault, body_fault, pmt_fault, pmt_of, read_pmt, view_pmt, view_line}
+use Rattle.psi_tables.specs.Pmts.{Stream, next_stream, ReadsStream, ReadsStreams, ReadsBody, ReadsPmt, PmtFields, LineFields, lines_of, info_length, stream_bytes, streams_run, left_fault, body_fault, pmt_fault, pmt_of, read_pmt, view_pmt, view_line}
 use Rattle.psi_tables.proofs.Runs.{stream_shortens}
-use Rattle.psi_tables.proofs.Sections.{AreBytes, section_found, section_again}
+use Rattle.psi_tables.proofs.Sections.{section_found, section_again}
 use Rattle.psi_tables.proofs.Lines.{both_none, four_fit}
 
 -- ---- one stream
@@ -219,7 +222,7 @@ pmt_read bytes p h =
       okay q = Ok q
 
 -- what the code makes of a frame and its lines is what the fields of the section give
-pub pmt_is : (frame : Frame) (lines : Vec PmtLine Global) (streams : List ℕ) (f : Fields) → view frame ≡ f → streams ≡ stream_bytes f.body → map view_line lines.items ≡ lines_of (streams_run streams).0
-    → pmt_of f ≡ view_pmt (record { program = frame.extension; lines = lines })
+pub pmt_is : (frame : Frame) (lines : Vec PmtLine Global) (streams : List ℕ) (f : Fields) → fields_with frame.header frame.body.now ≡ f → streams ≡ stream_bytes f.body → map view_line lines.items ≡ lines_of (streams_run streams).0
+    → pmt_of f ≡ view_pmt (record { program = frame.header.extension; lines = lines })
 pmt_is frame lines streams f e s g =
-    same_pmt f.extension frame.extension _ _ (sym (ap (λ (x : Fields). x.extension) e)) (ap (λ (xs : List ℕ). lines_of (streams_run xs).0) (sym s) ∙ sym g)
+    same_pmt f.extension frame.header.extension _ _ (sym (ap (λ (x : Fields). x.extension) e)) (ap (λ (xs : List ℕ). lines_of (streams_run xs).0) (sym s) ∙ sym g)

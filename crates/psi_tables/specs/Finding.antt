@@ -26,11 +26,6 @@ pmt_in section = if_read (read_pmt section)
 abbrev pub pats_among : List Bytes → List PatFields
 pats_among sections = filter_map pat_in sections
 
--- a list of none or one
-abbrev pub list_of : {A : Type 0} → Option A → List A
-list_of None = []
-list_of (Some x) = x ∷ []
-
 -- the PAT sections that came, in order
 abbrev pub pats_in : List Bytes → List PatFields
 pats_in packets = pats_among (candidates 0 packets)
@@ -80,10 +75,6 @@ arrivals pid packets = arrivals_of pid packets (length packets)
 -- the PIDs that lines list, with the number of packets up to their section
 abbrev pub listed_pids : ℕ → List PatLine → List (ℕ × ℕ)
 listed_pids k lines = map (λ l. (l.pid, k)) (filter is_program lines)
-
--- the PIDs that sections list which the k-th packet completed
-abbrev pub listed_by : ℕ → List Bytes → List (ℕ × ℕ)
-listed_by k sections = flat_map (λ s. listed_pids k (lines_in_section (pat_in s))) sections
 
 -- the PIDs that all sections list, in order
 abbrev pub listings : List Bytes → List (ℕ × ℕ)

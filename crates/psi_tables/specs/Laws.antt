@@ -2,6 +2,7 @@
 use Rattle.std.specs.Prelude.{◌≡◌, ℕ, ◌≤◌, true, List, [], length, take, drop, Option, Some, None, slice_get, ◌==◌}
 use Rattle.std.specs.List.{All, Contains, find, last_or, filter_map}
 use Rattle.std.specs.Option.{IfSome, option_map}
+use Rattle.carousel_profile.specs.declared.TheConstants.{CAROUSEL_PID}
 use Rattle.section_stream.specs.Cuts.{Bytes}
 use Rattle.psi_tables.specs.declared.tables.PatLine.{PatLine}
 use Rattle.psi_tables.specs.declared.finder.Find.{Find}
@@ -91,10 +92,10 @@ pub record PremisesMet : Type 0 where
   pub usual : IsUsual 1 example pat_value (λ (n : ℕ). pmt_value 1) 256
   pub pat : Contains (pats_in example) pat_value
   pub line : Contains pat_value.lines written_line × (is_program written_line ≡ true)
-  pub named : names 1 (pmt_value 1) ≡ Some 256
+  pub named : names 1 (pmt_value 1) ≡ Some CAROUSEL_PID
   pub came : Came example (λ (n : ℕ). pmt_value 1) written_line
   pub few : length (first_of_each [] (listed_pids 0 pat_value.lines)) ≤ MOST_FOLLOWED
-  pub found : found_in 1 example ≡ At 256
+  pub found : found_in 1 example ≡ At CAROUSEL_PID
   pub too_early : found_in 1 (take 1 example) ≡ NotNamed
   pub other : found_in 2 example ≡ NotNamed
   pub no_table : found_in 1 (drop 1 example) ≡ NoPat

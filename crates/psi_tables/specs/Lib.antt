@@ -4,6 +4,6 @@ pub mod Pmts
 pub mod Finding
 pub mod Receiving
 pub mod Stands
-pub mod Steps
 pub mod Written
 pub mod Laws
+pub mod Inner

@@ -4,7 +4,9 @@ use Rattle.std.specs.Prelude.{◌≡◌, ℕ, ◌+◌, ◌*◌, ◌/◌, ◌%◌
 use Rattle.oc_bytes.specs.Numbers.{two_bytes}
 use Rattle.psi_tables.specs.declared.tables.PatLine.{PatLine}
 use Rattle.psi_tables.specs.declared.tables.Pat.{Pat}
-use Rattle.psi_tables.specs.Frames.{Fields, IsSection, header_fault, crc_fault, fields_of, or_else}
+use Rattle.long_section.specs.Frames.{Fields, IsFrame, fields_of}
+use Rattle.psi_tables.specs.declared.frame.TheConstants.{MOST_LENGTH}
+use Rattle.psi_tables.specs.Frames.{header_fault, crc_fault, or_else}
 
 pub record PatFields : Type 0 where
   pub stream : ℕ
@@ -33,7 +35,7 @@ ReadsLines bytes (l ∷ ls) = (front : List ℕ) × (rest : List ℕ) × (bytes 
 pub record ReadsPat (bytes : List ℕ) (p : PatFields) : Type 0 where
   pub last : ℕ
   pub body : List ℕ
-  pub section : IsSection 0x00 bytes (record { extension = p.stream; version = p.version; number = p.number; last = last; body = body })
+  pub section : IsFrame MOST_LENGTH 0x00 bytes (record { extension = p.stream; version = p.version; number = p.number; last = last; body = body })
   pub lines : ReadsLines body p.lines
 
 -- ---- reading from left to right

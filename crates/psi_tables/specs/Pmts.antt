@@ -1,14 +1,16 @@
 -- Sections of a program's map table (ISO/IEC 13818-1, 2.4.4.8): table_id 0x02; three reserved bits and the PID of the program's
 -- clock, four reserved bits and the length of the program's descriptors, these; and the program's streams.
-use Rattle.std.specs.Prelude.{◌≡◌, ℕ, zero, suc, ◌+◌, ◌-◌, ◌*◌, ◌%◌, ◌<◌, List, [], ◌∷◌, ◌++◌, length, map, take, drop, slice_index, Option, Some, None, Result, nat_lt, nat_le, ◌==◌, ◌&&◌, if◌then◌else◌}
+use Rattle.std.specs.Prelude.{◌≡◌, ℕ, ◌+◌, ◌-◌, ◌*◌, ◌%◌, ◌<◌, List, [], ◌∷◌, ◌++◌, length, map, take, drop, slice_index, Option, Some, None, Result, nat_lt, nat_le, ◌==◌, ◌&&◌, if◌then◌else◌}
 use Rattle.std.specs.List.{filter, filter_map}
 use Rattle.oc_bytes.specs.Numbers.{two_bytes, number_of}
-use Rattle.psi_tables.specs.declared.pmt.Stream as code
+use Rattle.carousel_profile.specs.declared.TheConstants.{STREAM_TYPE}
+use Rattle.oc_bytes.specs.Descriptors.{run, descriptors_in}
 use Rattle.psi_tables.specs.declared.tables.PmtLine.{PmtLine}
 use Rattle.psi_tables.specs.declared.tables.Pmt.{Pmt}
-use Rattle.psi_tables.specs.Frames.{Fields, IsSection, header_fault, crc_fault, fields_of, or_else}
+use Rattle.long_section.specs.Frames.{Fields, IsFrame, fields_of}
+use Rattle.psi_tables.specs.declared.frame.TheConstants.{MOST_LENGTH}
+use Rattle.psi_tables.specs.Frames.{header_fault, crc_fault, or_else}
 use Rattle.psi_tables.specs.Pats.{ok_unless}
-use Rattle.oc_bytes.specs.Lengths.{twelve_bits}
 
 -- a stream of type 0x0B, and the carousels that it names
 pub record LineFields : Type 0 where
@@ -25,37 +27,16 @@ view_line l = record { pid = l.pid; carousels = l.carousels.items }
 abbrev pub view_pmt : Pmt → PmtFields
 view_pmt p = record { program = p.program; lines = map view_line p.lines.items }
 
--- ---- what stands one after another
-
--- the items that stand whole one after another from the front on, and what is left after the last of them; each item has a byte
--- at least, so that the bytes bound the steps
-abbrev pub onto_run : {A : Type 0} → (List ℕ → List A × List ℕ) → List ℕ → Option (A × List ℕ) → List A × List ℕ
-onto_run more bytes (Some x) = (x.0 ∷ (more x.1).0, (more x.1).1)
-onto_run more bytes None = ([], bytes)
-
-abbrev pub run : {A : Type 0} → (List ℕ → Option (A × List ℕ)) → ℕ → List ℕ → List A × List ℕ
-run next zero bytes = ([], bytes)
-run next (suc steps) bytes = onto_run (run next steps) bytes (next bytes)
-
 -- ---- descriptors
-
--- a descriptor's tag and bytes
-abbrev pub Descriptor : Type 0
-Descriptor = ℕ × List ℕ
-
--- the descriptor that stands whole at the front: a tag, a length and that many bytes
-abbrev pub next_descriptor : List ℕ → Option (Descriptor × List ℕ)
-next_descriptor (tag ∷ n ∷ bytes) = if nat_le n (length bytes) then Some ((tag, take n bytes), drop n bytes) else None
-next_descriptor _ = None
 
 -- the carousel that a descriptor names: carousel_identifier_descriptor (ISO/IEC 13818-6, 11.5.1) has tag 0x13, and begins with the
 -- carousel's id
-abbrev pub carousel_of : Descriptor → Option ℕ
+abbrev pub carousel_of : ℕ × List ℕ → Option ℕ
 carousel_of d = if (d.0 == 0x13) && nat_le 4 (length d.1) then Some (number_of (take 4 d.1)) else None
 
 -- the carousels that a stream's descriptors name; a descriptor that runs past their end is passed over
 abbrev pub carousels_in : List ℕ → List ℕ
-carousels_in info = filter_map carousel_of (run next_descriptor (length info) info).0
+carousels_in info = filter_map carousel_of (descriptors_in info)
 
 -- ---- streams
 
@@ -64,9 +45,6 @@ pub record Stream : Type 0 where
   pub kind : ℕ
   pub pid : ℕ
   pub info : List ℕ
-
-abbrev pub view_stream : code.Stream → Stream
-view_stream s = record { kind = s.kind; pid = s.pid; info = s.info.now }
 
 pub record ReadsStream (bytes : List ℕ) (s : Stream) : Type 0 where
   pub reserved : ℕ
@@ -81,7 +59,7 @@ ReadsStreams bytes (s ∷ ss) = (front : List ℕ) × (rest : List ℕ) × (byte
 
 -- the streams of type 0x0B
 abbrev pub lines_of : List Stream → List LineFields
-lines_of streams = map (λ s. record { pid = s.pid; carousels = carousels_in s.info }) (filter (λ s. s.kind == 0x0B) streams)
+lines_of streams = map (λ s. record { pid = s.pid; carousels = carousels_in s.info }) (filter (λ s. s.kind == STREAM_TYPE) streams)
 
 -- the body is read as the streams; the PID of the clock and the program's descriptors are any
 pub record ReadsBody (body : List ℕ) (streams : List Stream) : Type 0 where
@@ -97,7 +75,7 @@ pub record ReadsBody (body : List ℕ) (streams : List Stream) : Type 0 where
 pub record ReadsPmt (bytes : List ℕ) (p : PmtFields) : Type 0 where
   pub fields : Fields
   pub streams : List Stream
-  pub section : IsSection 0x02 bytes fields
+  pub section : IsFrame MOST_LENGTH 0x02 bytes fields
   pub body : ReadsBody fields.body streams
   pub program : p.program ≡ fields.extension
   pub lines : p.lines ≡ lines_of streams
@@ -107,12 +85,12 @@ pub record ReadsPmt (bytes : List ℕ) (p : PmtFields) : Type 0 where
 -- the stream that stands whole at the front
 abbrev pub next_stream : List ℕ → Option (Stream × List ℕ)
 next_stream (kind ∷ a ∷ b ∷ c ∷ d ∷ bytes) =
-    let n = twelve_bits c d in
+    let n = c % 16 * 256 + d in
     if nat_le n (length bytes) then Some (record { kind = kind; pid = a % 32 * 256 + b; info = take n bytes }, drop n bytes) else None
 next_stream _ = None
 
 abbrev pub info_length : List ℕ → ℕ
-info_length body = twelve_bits (slice_index body 2) (slice_index body 3)
+info_length body = slice_index body 2 % 16 * 256 + slice_index body 3
 
 abbrev pub stream_bytes : List ℕ → List ℕ
 stream_bytes body = drop (4 + info_length body) body

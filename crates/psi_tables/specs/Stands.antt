@@ -3,7 +3,6 @@ use Rattle.std.specs.Prelude.{◌≡◌, ℕ, ◌≤◌, Bool, false, List, [], 
 use Rattle.std.specs.List.{find}
 use Rattle.section_stream.specs.Cuts.{Bytes}
 use Rattle.section_stream.specs.Rules as streams
-use Rattle.psi_tables.specs.declared.tables.PatLine.{PatLine}
 use Rattle.psi_tables.specs.declared.followed.Program.{Program}
 use Rattle.psi_tables.specs.declared.followed.Followed.{Followed}
 use Rattle.psi_tables.specs.declared.directory.Directory.{Directory}
@@ -11,7 +10,7 @@ use Rattle.psi_tables.specs.declared.finder.Find.{Find}
 use Rattle.psi_tables.specs.declared.finder.Finder.TheInside.{Inside}
 use Rattle.psi_tables.specs.Pats.{PatFields, view_pat}
 use Rattle.psi_tables.specs.Receiving.{HeardOn, pid_of}
-use Rattle.psi_tables.specs.Finding.{followed_in, is_in, pats_in, pmts_in, pmt_among, names, newest_in, section_among, is_section, listings, choose, found_with, found_in}
+use Rattle.psi_tables.specs.Finding.{followed_in, is_in, pats_in, pmts_in, pmt_among, names, newest_in, section_among, is_section, listings, choose, found_in}
 
 -- a PID that is followed, and of each program whose map table came on it the stream that the last one names
 pub record FollowedState : Type 0 where
@@ -48,16 +47,8 @@ view_finder f = record { tables = f.tables; directory = view_directory f.directo
 abbrev pub named_for : (program : ℕ) → List Program → Option ℕ
 named_for program entries = option_and_then (λ e. e.named) (find (λ e. e.program == program) entries)
 
--- the stream that a line's map table names
-abbrev pub named_by : List FollowedState → PatLine → Option ℕ
-named_by followed l = option_and_then (λ f. named_for l.program f.programs) (find (λ f. f.pid == l.pid) followed)
-
 abbrev pub section_kept : List PatFields → (version number : ℕ) → Option PatFields
 section_kept sections version number = find (is_section version number) sections
-
--- the answer that what is kept gives
-abbrev pub found_by : DirectoryState → Find
-found_by d = found_with d.newest (section_kept d.sections) (named_by d.followed)
 
 -- ---- what is kept, looking back
 

@@ -2,15 +2,12 @@ ghost use Rattle.std.specs.Prelude.{◌≡◌, ◌++◌, IfOk, OnOk};
 ghost use Rattle.section_stream.specs.Packing.{IsSectionLike};
 ghost use Rattle.psi_tables.specs.Written.{announcer_packets, announcer_start, after_announcing, packets_of_table, past_table};
 
-use crate::tables::PAT_PID;
 use crate::written::{written_pat, written_pmt};
+use carousel_profile::{PACKET_LENGTH, PAT_PID, PMT_PID};
 use oc_bytes::NoMemory;
 use section_stream::Mux;
 use std::alloc::Global;
 use std::marker::Model;
-
-/// The PID of the map table (this project's own).
-const PMT_PID: u16 = 32;
 
 /// Sends the tables that name a carousel: the PAT on PID 0 and its map table on PID 32, each PID with continuity counters of its own.
 #[derive(Drop)]
@@ -56,7 +53,7 @@ impl Announcer {
     /// PID.
     ///
     /// After `NoMemory` `out` may have the packets of the PAT, and nothing more is said of the counters.
-    pub fn packets(&mut self, out: &mut Vec<[u8; 188]>) -> Result<(), NoMemory>
+    pub fn packets(&mut self, out: &mut Vec<[u8; PACKET_LENGTH]>) -> Result<(), NoMemory>
         ensures packets { OnOk result
             (out.new.items ≡ out.old.items ++ announcer_packets self.old) }
         ensures counters { OnOk result (self.new ≡ after_announcing self.old) }
@@ -67,7 +64,7 @@ impl Announcer {
 }
 
 /// Sends a table as a group of its own.
-fn send(mux: &mut Mux, table: &[u8], out: &mut Vec<[u8; 188]>) -> Result<(), NoMemory>
+fn send(mux: &mut Mux, table: &[u8], out: &mut Vec<[u8; PACKET_LENGTH]>) -> Result<(), NoMemory>
     requires { IsSectionLike table.now }
     ensures packets { OnOk result
         (out.new.items ≡ out.old.items ++ packets_of_table mux.old table.now) }

@@ -6,14 +6,17 @@ ghost use Rattle.section_stream.specs.Kept.{view_bytes};
 ghost use Rattle.psi_tables.specs.Pats.{PatFields, view_pat};
 ghost use Rattle.psi_tables.specs.Receiving.{pid_of};
 ghost use Rattle.psi_tables.specs.Finding as finding;
+ghost use Rattle.psi_tables.specs.Inner.Finding as inner;
 ghost use Rattle.psi_tables.specs.Finding.{choose, is_section, lines_in_section, listed_pids, pat_in};
-ghost use Rattle.psi_tables.specs.Stands.{FollowedState, DirectoryState, FollowsEach, Keeps, view_followed, view_directory, named_by, section_kept, found_by};
-ghost use Rattle.psi_tables.specs.Steps.{put, Each, Heard, becomes_followed};
+ghost use Rattle.psi_tables.specs.Stands.{FollowedState, DirectoryState, FollowsEach, Keeps, view_followed, view_directory, section_kept};
+ghost use Rattle.psi_tables.specs.Inner.Stands.{named_by, found_by};
+ghost use Rattle.psi_tables.specs.Inner.Steps.{put, Each, Heard, becomes_followed};
 
 use crate::finder::Find;
 use crate::followed::{Followed, named_for_program};
 use crate::pat::decode_pat;
 use crate::{Pat, PatLine, PsiFault};
+use carousel_profile::PACKET_LENGTH;
 use oc_bytes::NoMemory;
 use section_stream::PacketDemux;
 use std::alloc::{AllocError, Global};
@@ -120,7 +123,7 @@ fn feed_all(
     carousel: u32,
     followed: &mut [Followed],
     pid: u16,
-    packet: &[u8; 188],
+    packet: &[u8; PACKET_LENGTH],
 ) -> Result<bool, NoMemory>
     requires { pid_of packet.now ≡ Some pid }
     ensures { IfOk result (λ completed.
@@ -184,7 +187,7 @@ impl Directory {
         ensures keeps { OnOk result ((packets : List Bytes) (pats : List PatFields)
             (before : List (ℕ × ℕ))
             → Keeps packets (view_directory self.old) pats before
-            → Keeps packets (view_directory self.new) (pats ++ finding.list_of (pat_in section.now))
+            → Keeps packets (view_directory self.new) (pats ++ inner.list_of (pat_in section.now))
             (before ++ listed_pids (length packets) (lines_in_section (pat_in section.now)))) }
         ensures carousel { self.new.carousel ≡ self.old.carousel }
     {
@@ -205,7 +208,7 @@ impl Directory {
             → Keeps packets (view_directory self.old) pats before
             → Keeps packets (view_directory self.new)
             (pats ++ finding.pats_among (map view_bytes sections.now))
-            (before ++ finding.listed_by (length packets) (map view_bytes sections.now))) }
+            (before ++ inner.listed_by (length packets) (map view_bytes sections.now))) }
         ensures carousel { self.new.carousel ≡ self.old.carousel }
     {
         for section in sections {
@@ -215,7 +218,7 @@ impl Directory {
     }
 
     /// Takes a packet of the PID `pid` where it is followed. Answers whether it completed a section there.
-    pub fn feed(&mut self, pid: u16, packet: &[u8; 188]) -> Result<bool, NoMemory>
+    pub fn feed(&mut self, pid: u16, packet: &[u8; PACKET_LENGTH]) -> Result<bool, NoMemory>
         requires { pid_of packet.now ≡ Some pid }
         ensures followed { IfOk result (λ completed.
             Each (Heard self.old.carousel packet.now completed) (view_directory self.old).followed

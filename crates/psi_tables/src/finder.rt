@@ -2,12 +2,13 @@ ghost use Rattle.std.specs.Prelude.{◌≡◌, ◌++◌, ◌∷◌, ◌||◌, []
 ghost use Rattle.section_stream.specs.Cuts.{Bytes};
 ghost use Rattle.psi_tables.specs.Finding.{found_in};
 ghost use Rattle.psi_tables.specs.Receiving as receiving;
-ghost use Rattle.psi_tables.specs.Stands.{StandsFor, Holds, found_by, is_heard};
-ghost use Rattle.psi_tables.specs.Steps.{TablesHeard};
+ghost use Rattle.psi_tables.specs.Stands.{StandsFor, Holds, is_heard};
+ghost use Rattle.psi_tables.specs.Inner.Stands.{found_by};
+ghost use Rattle.psi_tables.specs.Inner.Steps.{TablesHeard};
 
 use crate::directory::Directory;
 use crate::receiving::pid_of;
-use crate::tables::PAT_PID;
+use carousel_profile::{PACKET_LENGTH, PAT_PID};
 use oc_bytes::NoMemory;
 use section_stream::PacketDemux;
 use std::alloc::{AllocError, Global};
@@ -68,7 +69,7 @@ impl Finder {
     ///
     /// `NoMemory` comes only of a packet with a payload on PID 0 or on a followed PID. After it the finder is spent: each later call answers
     /// `NoMemory`, and nothing more is said of what it finds.
-    pub fn feed(&mut self, packet: &[u8; 188]) -> Result<(), NoMemory>
+    pub fn feed(&mut self, packet: &[u8; PACKET_LENGTH]) -> Result<(), NoMemory>
         ensures stands { OnOk result ((packets : List Bytes)
             → StandsFor self.old packets
             → StandsFor self.new (packets ++ packet.now ∷ [])) }
@@ -90,7 +91,7 @@ impl Finder {
     }
 
     /// Takes one packet on each PID.
-    fn hear(&mut self, packet: &[u8; 188]) -> Result<(), NoMemory>
+    fn hear(&mut self, packet: &[u8; PACKET_LENGTH]) -> Result<(), NoMemory>
         ensures holds { OnOk result ((packets : List Bytes)
             → Holds self.old packets
             → Holds self.new (packets ++ packet.now ∷ [])) }
@@ -111,7 +112,7 @@ impl Finder {
     }
 
     /// Takes a packet of the PID `pid` where it is the PAT's. Answers whether it completed a section there.
-    fn hear_tables(&mut self, pid: u16, packet: &[u8; 188]) -> Result<bool, NoMemory>
+    fn hear_tables(&mut self, pid: u16, packet: &[u8; PACKET_LENGTH]) -> Result<bool, NoMemory>
         requires { receiving.pid_of packet.now ≡ Some pid }
         ensures heard { IfOk result (λ listed. TablesHeard packet.now listed self.old self.new) }
         ensures spent { self.new.spent ≡ self.old.spent }

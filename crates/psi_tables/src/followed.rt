@@ -7,10 +7,11 @@ ghost use Rattle.psi_tables.specs.Pmts.{view_pmt};
 ghost use Rattle.psi_tables.specs.Receiving.{pid_of};
 ghost use Rattle.psi_tables.specs.Finding as finding;
 ghost use Rattle.psi_tables.specs.Stands.{Hears, view_followed, named_for};
-ghost use Rattle.psi_tables.specs.Steps.{put, after_pmt, after_pmts};
+ghost use Rattle.psi_tables.specs.Inner.Steps.{put, after_pmt, after_pmts};
 
 use crate::pmt::decode_pmt;
 use crate::{Pmt, PmtLine, PsiFault};
+use carousel_profile::PACKET_LENGTH;
 use oc_bytes::NoMemory;
 use section_stream::PacketDemux;
 use std::alloc::{AllocError, Global};
@@ -141,7 +142,7 @@ impl Followed {
         alloc: Global,
         carousel: u32,
         pid: u16,
-        packet: &[u8; 188],
+        packet: &[u8; PACKET_LENGTH],
     ) -> Result<bool, NoMemory>
         requires { pid_of packet.now ≡ Some pid }
         ensures hears { OnOk result ((packets : List Bytes)

@@ -1,47 +1,16 @@
 ghost use Rattle.std.specs.Prelude.{◌≡◌, ◌≤◌, ◌<◌, Some, None, length, MatchResult, Err};
 ghost use Rattle.psi_tables.specs.Frames as frames;
-ghost use Rattle.psi_tables.specs.Frames.{header_fault, fields_of};
+ghost use Rattle.psi_tables.specs.Frames.{header_fault};
 
+use long_section::ROUND;
 use oc_bytes::{Cut, length_field};
 use section_crc::crc;
 
 /// The most bytes of a table's section after its section_length.
 pub const MOST_LENGTH: usize = 1021;
 
-/// The bytes round the body: the header's 8 and the CRC's 4.
-const ROUND: usize = 12;
-
-/// What stands round the lines of a table's section, and these, lent.
-#[derive(Clone, Copy, Debug)]
-pub struct Frame<'a> {
-    pub extension: u16,
-    pub version: u8,
-    pub number: u8,
-    pub last: u8,
-    pub body: &'a [u8],
-}
-
-/// The section of table `id` that takes all of the bytes, or the first field before its body that breaks its rule or is cut.
-/// The CRC isn't looked at.
-pub fn frame_of(id: u8, bytes: &[u8]) -> Result<Frame<'_>, Cut>
-    ensures { MatchResult result
-        (λ f.
-        (header_fault id bytes.now ≡ None)
-        × (frames.view f ≡ fields_of bytes.now)
-        × (12 ≤ length bytes.now)) (λ cut. header_fault id bytes.now ≡ Some cut.0) }
-{
-    check_header(id, bytes)?;
-    Ok(Frame {
-        extension: u16::from_be_bytes([bytes[3], bytes[4]]),
-        version: bytes[5] / 2 % 32,
-        number: bytes[6],
-        last: bytes[7],
-        body: &bytes[8..bytes.len() - 4],
-    })
-}
-
-/// The first field before the body that breaks its rule or is cut.
-fn check_header(id: u8, bytes: &[u8]) -> Result<(), Cut>
+/// The first field before the body that breaks its rule or is cut, of a section of table `id`. The CRC isn't looked at.
+pub fn check_header(id: u8, bytes: &[u8]) -> Result<(), Cut>
     ensures { MatchResult result (λ _. (header_fault id bytes.now ≡ None) × (12 ≤ length bytes.now))
         (λ cut. header_fault id bytes.now ≡ Some cut.0) }
 {

@@ -1,10 +1,12 @@
 ghost use Rattle.std.specs.Prelude.{◌≡◌, ◌%◌, Some, None, Ok, Err, IfOk, IsErrOf, MatchResult};
-ghost use Rattle.oc_bytes.specs.Outcome.{Gives};
-ghost use Rattle.psi_tables.specs.Frames.{cause, view, fields_of};
+ghost use Rattle.oc_bytes.specs.Outcome.{Gives, MakesList};
+ghost use Rattle.psi_tables.specs.Frames.{cause};
+ghost use Rattle.long_section.specs.Frames.{fields_of, fields_with};
 ghost use Rattle.psi_tables.specs.Pats.{PatFields, ReadsPat, view_pat, read_pat, pat_fault, lines_in, line_of};
 
-use crate::frame::{Frame, check_crc, frame_of};
+use crate::frame::{check_crc, check_header};
 use crate::{Pat, PatLine, PsiFault};
+use long_section::{Frame, frame_of};
 use oc_bytes::Cut;
 use std::alloc::{AllocError, Global};
 
@@ -20,7 +22,7 @@ fn line_from(a: u8, b: u8, c: u8, d: u8) -> PatLine
 
 /// The lines that stand one after another in a body.
 fn lines_from(alloc: Global, body: &[u8]) -> Result<Vec<PatLine>, AllocError>
-    ensures { IfOk result (λ v. v.items ≡ lines_in body.now) }
+    ensures { MakesList result (lines_in body.now) }
 {
     let mut lines = Vec::with_capacity(alloc, body.len() / 4)?;
     let mut rest = body;
@@ -34,10 +36,12 @@ fn lines_from(alloc: Global, body: &[u8]) -> Result<Vec<PatLine>, AllocError>
 /// The frame of a section of the PAT whose bytes read, or the place of the first fault.
 fn checked(bytes: &[u8]) -> Result<Frame<'_>, Cut>
     ensures { MatchResult result
-        (λ f. (pat_fault bytes.now ≡ None) × (view f ≡ fields_of bytes.now))
+        (λ f. (pat_fault bytes.now ≡ None)
+        × (fields_with f.header f.body.now ≡ fields_of bytes.now))
         (λ cut. pat_fault bytes.now ≡ Some cut.0) }
 {
-    let frame = frame_of(0x00, bytes)?;
+    check_header(0x00, bytes)?;
+    let frame = frame_of(bytes);
     let size = frame.body.len();
     if size % 4 != 0 {
         return Err(Cut(8 + size / 4 * 4));
@@ -61,9 +65,9 @@ pub fn decode_pat(alloc: Global, bytes: &[u8]) -> Result<Pat, PsiFault>
     let frame = checked(bytes)?;
     let lines = lines_from(alloc, frame.body)?;
     Ok(Pat {
-        stream: frame.extension,
-        version: frame.version,
-        number: frame.number,
+        stream: frame.header.extension,
+        version: frame.header.version,
+        number: frame.header.number,
         lines,
     })
 }

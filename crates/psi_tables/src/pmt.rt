@@ -1,27 +1,24 @@
 ghost use Rattle.std.specs.Prelude.{◌≡◌, ◌%◌, ◌≤◌, map, Some, None, Ok, Err, length, IfOk, IsErrOf, MatchResult};
 ghost use Rattle.std.specs.Option.{option_map};
-ghost use Rattle.oc_bytes.specs.Outcome.{Gives};
-ghost use Rattle.psi_tables.specs.Frames.{cause, view, fields_of};
+ghost use Rattle.oc_bytes.specs.Outcome.{Gives, MakesList};
+ghost use Rattle.psi_tables.specs.Frames.{cause};
+ghost use Rattle.long_section.specs.Frames.{fields_of, fields_with};
 ghost use Rattle.psi_tables.specs.Pmts as pmts;
+ghost use Rattle.psi_tables.specs.Inner.Pmts as inner;
 ghost use Rattle.psi_tables.specs.Pmts.{PmtFields, ReadsPmt, view_pmt, view_line, read_pmt, pmt_fault, body_fault, stream_bytes, streams_run, lines_of, carousels_in, carousel_of};
 
-use crate::frame::{Frame, check_crc, frame_of};
+use crate::frame::{check_crc, check_header};
 use crate::{Pmt, PmtLine, PsiFault};
-use oc_bytes::{Cut, length_field};
+use carousel_profile::STREAM_TYPE;
+use long_section::{Frame, frame_of};
+use oc_bytes::{Cut, Descriptor, Descriptors, length_field};
 use std::alloc::{AllocError, Global};
 
 /// The type of streams that carry DSM-CC messages (ISO/IEC 13818-6, clause 9.2.3): user-to-network messages, among them object carousels.
-const DSM_CC: u8 = 0x0B;
+const DSM_CC: u8 = STREAM_TYPE;
 
 /// The tag of a carousel identifier descriptor (ISO/IEC 13818-6, clause 11.5.1).
 const CAROUSEL_IDENTIFIER: u8 = 0x13;
-
-/// A descriptor's tag and bytes, lent.
-#[derive(Clone, Copy, Debug)]
-struct Descriptor<'a> {
-    tag: u8,
-    bytes: &'a [u8],
-}
 
 /// A stream of a program, lent.
 #[derive(Clone, Copy, Debug)]
@@ -31,29 +28,9 @@ struct Stream<'a> {
     info: &'a [u8],
 }
 
-/// The descriptor that stands whole at the front, and what follows it.
-fn next_descriptor(bytes: &[u8]) -> Option<(Descriptor<'_>, &[u8])>
-    ensures { option_map (λ x. ((x.0.tag, x.0.bytes.now), x.1.now)) result
-        ≡ pmts.next_descriptor bytes.now }
-{
-    match bytes {
-        [tag, size, following @ ..] if usize::from(*size) <= following.len() => {
-            let size = usize::from(*size);
-            Some((
-                Descriptor {
-                    tag: *tag,
-                    bytes: &following[..size],
-                },
-                &following[size..],
-            ))
-        }
-        _ => None,
-    }
-}
-
 /// The stream that stands whole at the front, and what follows it.
 fn next_stream(bytes: &[u8]) -> Option<(Stream<'_>, &[u8])>
-    ensures { option_map (λ x. (pmts.view_stream x.0, x.1.now)) result
+    ensures { option_map (λ x. (inner.view_stream x.0, x.1.now)) result
         ≡ pmts.next_stream bytes.now }
 {
     let [kind, a, b, c, d, following @ ..] = bytes else {
@@ -85,15 +62,14 @@ fn carousel_named(descriptor: Descriptor<'_>) -> Option<u32>
 
 /// The carousels that a stream's descriptors name.
 fn carousels_named(alloc: Global, info: &[u8]) -> Result<Vec<u32>, AllocError>
-    ensures { IfOk result (λ v. v.items ≡ carousels_in info.now) }
+    ensures { MakesList result (carousels_in info.now) }
 {
     let mut carousels = Vec::new(alloc);
-    let mut rest = info;
-    while let Some((descriptor, following)) = next_descriptor(rest) {
+    let mut descriptors = Descriptors::new(info);
+    while let Some(descriptor) = descriptors.next() {
         if let Some(carousel) = carousel_named(descriptor) {
             carousels.push(carousel)?;
         }
-        rest = following;
     }
     Ok(carousels)
 }
@@ -159,11 +135,12 @@ fn checked(bytes: &[u8]) -> Result<(Frame<'_>, &[u8]), Cut>
     ensures { MatchResult result
         (λ x.
         (pmt_fault bytes.now ≡ None)
-        × (view x.0 ≡ fields_of bytes.now)
+        × (fields_with x.0.header x.0.body.now ≡ fields_of bytes.now)
         × (x.1.now ≡ stream_bytes (fields_of bytes.now).body))
         (λ cut. pmt_fault bytes.now ≡ Some cut.0) }
 {
-    let frame = frame_of(0x02, bytes)?;
+    check_header(0x02, bytes)?;
+    let frame = frame_of(bytes);
     let streams = streams_of(frame.body)?;
     check_crc(bytes)?;
     Ok((frame, streams))
@@ -186,7 +163,7 @@ pub fn decode_pmt(alloc: Global, bytes: &[u8]) -> Result<Pmt, PsiFault>
     let (frame, streams) = checked(bytes)?;
     let lines = lines_from(alloc, streams)?;
     Ok(Pmt {
-        program: frame.extension,
+        program: frame.header.extension,
         lines,
     })
 }

@@ -4,9 +4,6 @@ use oc_bytes::Cut;
 use std::alloc::AllocError;
 use thiserror::Error;
 
-/// The PID of the program association table (ISO/IEC 13818-1, table 2-3).
-pub const PAT_PID: u16 = 0;
-
 /// A line of a PAT: a program, and where its map table is sent.
 #[derive(Clone, Copy, Debug, PartialEq, Eq)]
 pub struct PatLine {

@@ -37,7 +37,8 @@ use Rattle.folder_store.specs.declared.sights.Standing.{Standing}
 use Rattle.folder_store.specs.declared.surveying.Surveyed.{Surveyed}
 use Rattle.publication_plan.specs.Inner.Judging.{FaultTells, IsAccepted, RefusalTells, SizeFails}
 use Rattle.publication_plan.specs.Plans.{CantBeRead, IsPlan, IsTextOf, NeedsFolder, broken_in, commit_text, first_outcome, look_in, plan_of, walk_text}
-use Rattle.publication_plan.specs.Refusals.{IsNoFile, commit_line, refused_path, rule_line, size_at}
+use Rattle.publication_plan.specs.Refusals.{IsNoFile, commit_line, rule_line, size_at}
+use Rattle.publication_plan.specs.Inner.Refusals.{refused_path}
 use Rattle.publication_plan.specs.Telling.{cycle_sections, plan_text, unreadable_line}
 use Rattle.publication_plan.specs.declared.planning.PlanEnd.{PlanEnd}
 use Rattle.publication_plan.specs.declared.planning.PlanEnd.TheVariants as ends

@@ -15,7 +15,7 @@ use Rattle.generation_catalogue.specs.declared.entry.Refusal.TheVariants as refu
 use Rattle.folder_store.specs.Surveys.{first_large}
 use Rattle.folder_store.specs.Walk.{text_below}
 use Rattle.publication_plan.specs.Plans.{first_outcome}
-use Rattle.publication_plan.specs.Refusals.{refused_path}
+use Rattle.publication_plan.specs.Inner.Refusals.{refused_path}
 use Rattle.publication_plan.proofs.Judgement.{outcome_is}
 
 place_is : (p q : ℕ × EditFault) → p ≡ q → p.0 ≡ q.0

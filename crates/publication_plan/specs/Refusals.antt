@@ -1,5 +1,5 @@
 -- Why a folder can't be published: the cause as `publish` has it, and the path, the size and the limit where it is of one.
-use Rattle.std.specs.Prelude.{◌≡◌, ℕ, List, [], ◌∷◌, ◌++◌, length, take, slice_get, Option, Some, None, Result, Ok, Err, codes}
+use Rattle.std.specs.Prelude.{◌≡◌, ℕ, List, ◌∷◌, ◌++◌, length, take, slice_get, Option, Some, None, Result, Ok, Err, codes}
 use Rattle.std.specs.Option.{option_map}
 use Rattle.path_tree.specs.Paths.{Bytes, PathNames}
 use Rattle.path_tree.specs.Texts.{text_of}
@@ -67,14 +67,6 @@ abbrev pub commit_line : FolderTree → Look → List Edit → Result Tree (ℕ 
 commit_line t k es applied refusal = refused_line (cause_text es refusal) (size_told t k applied refusal) (limit_of refusal)
 
 -- ---- the size that couldn't be read
-
--- the path of the file that is too large
-abbrev pub refused_path : List Edit → Refusal → PathNames
-refused_path es (refusals.Edit place fault) = go (slice_get es place) where
-  go : Option Edit → PathNames
-  go (Some e) = path_in e
-  go None = []
-refused_path es _ = []
 
 -- no file stands at the path text of the file that is too large
 abbrev pub IsNoFile : Option Bytes → FolderTree → Type 0

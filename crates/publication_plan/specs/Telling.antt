@@ -4,13 +4,15 @@ use Rattle.std.specs.Fmt.{decimal}
 use Rattle.std.specs.List.{flat_map, list_any}
 use Rattle.std.specs.Option.{unwrap_or}
 use Rattle.std.specs.Ordering.{is_lt}
+use Rattle.carousel_profile.specs.declared.TheConstants.{PACKET_LENGTH}
 use Rattle.path_tree.specs.Paths.{Bytes, PathNames, name_cmp, next_name, path_cmp}
 use Rattle.path_tree.specs.Texts.{text_of}
 use Rattle.path_tree.specs.Trees.{Tree, Node, File, Folder, NoSuch, node_at}
 use Rattle.biop_object.specs.Names.{module_in}
 use Rattle.cycle_planner.specs.Cycle.{Line, cycle_of}
 use Rattle.cycle_planner.specs.Weights.{weight}
-use Rattle.generation.specs.Layouts.{GenerationState, lines_of, section_of}
+use Rattle.generation.specs.Layouts.{GenerationState, lines_of}
+pub use Rattle.generation.specs.Layouts.{cycle_sections}
 use Rattle.generation.specs.Objects.{object_of}
 use Rattle.generation.specs.declared.listing.Object.{Object}
 use Rattle.generation.specs.declared.listing.ObjectKind.{ObjectKind}
@@ -86,10 +88,6 @@ module_line weights g l =
     four_fields (with_number (codes "module") l.0) (with_number (codes "size") (length (unwrap_or (module_in g.layout l.0) [])))
     (with_number (codes "blocks") l.1) (with_number (codes "weight") (weight weights l.0))
 
--- the sections of one cycle
-abbrev pub cycle_sections : List ℕ → GenerationState → List Bytes
-cycle_sections weights g = map (section_of g) (cycle_of weights (lines_of g))
-
 -- the packets of one cycle that is sent alone; their number is the same on each PID
 abbrev pub cycle_packets : List ℕ → GenerationState → List Bytes
 cycle_packets weights g = packets_of_group (idle 256 0) (cycle_sections weights g)
@@ -101,7 +99,8 @@ milliseconds bytes bitrate = (8000 * bytes + bitrate - 1) / bitrate
 abbrev pub cycle_line : (sections packets bitrate : ℕ) → Bytes
 cycle_line sections packets bitrate =
     four_fields (with_number (codes "cycle sections") sections) (with_number (codes "packets") packets)
-    (with_number (codes "bytes") (188 * packets)) (with_number (codes "milliseconds") (milliseconds (188 * packets) bitrate))
+    (with_number (codes "bytes") (PACKET_LENGTH * packets))
+    (with_number (codes "milliseconds") (milliseconds (PACKET_LENGTH * packets) bitrate))
 
 -- the plan of a generation, and what was passed over on the way to it
 abbrev pub plan_text : (weights : List ℕ) (bitrate : ℕ) → GenerationState → List Stands → Bytes

@@ -2,11 +2,11 @@
 
 ghost use Rattle.std.specs.Prelude.{◌≡◌, ◌≤◌, ◌*◌, length, IfOk, OnOk};
 ghost use Rattle.std.specs.List.{All, Contains};
-ghost use Rattle.cycle_planner.specs.Cycle.{cycle_of};
-ghost use Rattle.generation.specs.Layouts.{items_of, lines_of, section_of};
+ghost use Rattle.generation.specs.Layouts.{items_of, section_of, cycle_items};
 ghost use Rattle.section_stream.specs.Packing.{IsSectionLike, idle, last_of, packets_of, past};
 ghost use Rattle.publication_plan.specs.Telling.{cycle_packets, cycle_sections, milliseconds};
 
+use carousel_profile::{CAROUSEL_PID, PACKET_LENGTH};
 use cycle_planner::{Item, Walk, Weigh, cycle_len};
 use generation::Generation;
 use oc_bytes::NoMemory;
@@ -14,7 +14,7 @@ use section_stream::Mux;
 use std::alloc::Global;
 
 /// The PID of the packets that are counted. Their number is the same on each.
-const PID: u16 = 256;
+const PID: u16 = CAROUSEL_PID;
 
 /// The most packets that a cycle takes, and more.
 const MOST_PACKETS: u64 = 1_099_511_627_776;
@@ -34,7 +34,7 @@ pub(crate) fn count_cycle(
 ) -> Result<Cycle, NoMemory>
     requires { All IsSectionLike (cycle_sections weigh.now.weights generation.now) }
     ensures sections { IfOk result (λ c.
-        c.sections ≡ length (cycle_of weigh.now.weights (lines_of generation.now))) }
+        c.sections ≡ length (cycle_items weigh.now.weights generation.now)) }
     ensures packets { IfOk result (λ c.
         c.packets ≡ length (cycle_packets weigh.now.weights generation.now)) }
     ensures few { IfOk result (λ c. c.packets ≤ MOST_PACKETS) }
@@ -56,7 +56,7 @@ pub(crate) fn count_cycle(
 struct Counter {
     mux: Mux,
     /// Room for the packets of one section.
-    packets: Vec<[u8; 188]>,
+    packets: Vec<[u8; PACKET_LENGTH]>,
 }
 
 impl Counter {
@@ -97,7 +97,7 @@ impl Counter {
 /// How long so many bytes take at a rate of bits a second, in milliseconds, rounded up.
 pub(crate) fn time_of(bytes: u64, bitrate: u32) -> u64
     requires some { 1 ≤ bitrate }
-    requires few { bytes ≤ 188 * MOST_PACKETS }
+    requires few { bytes ≤ PACKET_LENGTH * MOST_PACKETS }
     ensures { result ≡ milliseconds bytes bitrate }
 {
     let bitrate = u64::from(bitrate);

@@ -1,14 +1,13 @@
 //! The lines of a plan.
 
-ghost use Rattle.std.specs.Prelude.{◌≡◌, ◌≤◌, ◌++◌, ◌∷◌, [], length, map, IfOk, OnOk, codes, if◌then◌else◌};
+ghost use Rattle.std.specs.Prelude.{◌≡◌, ◌≤◌, ◌++◌, ◌∷◌, [], length, map, IfOk, codes, if◌then◌else◌};
 ghost use Rattle.std.specs.List.{flat_map, All};
 ghost use Rattle.std.specs.Option.{unwrap_or};
-ghost use Rattle.std.specs.String.{string_bytes};
+ghost use Rattle.oc_bytes.specs.Outcome.{Spells, AddsText};
 ghost use Rattle.biop_object.specs.Names.{module_in};
 ghost use Rattle.path_tree.specs.Trees.{node_at};
-ghost use Rattle.cycle_planner.specs.Cycle.{cycle_of};
 ghost use Rattle.module_groups.specs.declared.TheConstants.{GREATEST_ID};
-ghost use Rattle.generation.specs.Layouts.{lines_of};
+ghost use Rattle.generation.specs.Layouts.{lines_of, cycle_items};
 ghost use Rattle.generation.specs.Objects.{object_of};
 ghost use Rattle.section_stream.specs.Packing.{IsSectionLike};
 ghost use Rattle.folder_store.specs.Surveys.{names_at, view_standing};
@@ -17,6 +16,7 @@ ghost use Rattle.shell_words.specs.Texts.{line, with_number};
 ghost use Rattle.publication_plan.specs.declared.counting.TheConstants.{MOST_PACKETS};
 
 use crate::counting::{Cycle, count_cycle, time_of};
+use carousel_profile::PACKET_LENGTH;
 use cycle_planner::Weigh;
 use folder_store::{Standing, standing_text};
 use generation::{Generation, Object, ObjectKind};
@@ -34,9 +34,8 @@ pub(crate) fn plan_lines(
 ) -> Result<String, NoMemory>
     requires like { All IsSectionLike (cycle_sections weigh.now.weights generation.now) }
     requires rate { 1 ≤ bitrate }
-    ensures { IfOk result (λ text.
-        string_bytes text
-        ≡ plan_text weigh.now.weights bitrate generation.now (map view_standing left.now)) }
+    ensures { Spells result
+        (plan_text weigh.now.weights bitrate generation.now (map view_standing left.now)) }
 {
     let mut text = String::new(alloc);
     put_objects(alloc, generation, left, &mut text)?;
@@ -54,10 +53,8 @@ fn put_objects(
     left: &[Standing],
     text: &mut String,
 ) -> Result<(), NoMemory>
-    ensures { OnOk result
-        (string_bytes text.new
-        ≡ string_bytes text.old
-        ++ entry_lines generation.now.tree (map object_of generation.now.objects)
+    ensures { AddsText result text.old text.new
+        (entry_lines generation.now.tree (map object_of generation.now.objects)
         (map view_standing left.now)) }
 {
     let objects = generation.objects()?;
@@ -72,10 +69,8 @@ fn put_entries(
     left: &[Standing],
     text: &mut String,
 ) -> Result<(), NoMemory>
-    ensures { OnOk result
-        (string_bytes text.new
-        ≡ string_bytes text.old
-        ++ entry_lines tree.now objects.now (map view_standing left.now)) }
+    ensures { AddsText result text.old text.new
+        (entry_lines tree.now objects.now (map view_standing left.now)) }
 {
     let mut next = 0;
     for object in objects {
@@ -92,10 +87,8 @@ fn put_first(
     path: &Path,
     text: &mut String,
 ) -> Result<usize, NoMemory>
-    ensures text { OnOk result
-        (string_bytes text.new
-        ≡ string_bytes text.old
-        ++ flat_map left_line (left_first path.now (map view_standing left.now))) }
+    ensures text { AddsText result text.old text.new
+        (flat_map left_line (left_first path.now (map view_standing left.now))) }
     ensures count { IfOk result (λ n.
         n ≡ length (left_first path.now (map view_standing left.now))) }
     ensures within { IfOk result (λ n. n ≤ length left.now) }
@@ -129,9 +122,7 @@ fn stands_before(standing: &Standing, path: &Path) -> bool
 
 /// The lines of what was passed over.
 fn put_left(alloc: Global, left: &[Standing], text: &mut String) -> Result<(), NoMemory>
-    ensures { OnOk result
-        (string_bytes text.new
-        ≡ string_bytes text.old ++ flat_map left_line (map view_standing left.now)) }
+    ensures { AddsText result text.old text.new (flat_map left_line (map view_standing left.now)) }
 {
     for standing in left {
         let line = left_text(alloc, standing)?;
@@ -141,15 +132,14 @@ fn put_left(alloc: Global, left: &[Standing], text: &mut String) -> Result<(), N
 }
 
 fn left_text(alloc: Global, standing: &Standing) -> Result<String, NoMemory>
-    ensures { IfOk result (λ text. string_bytes text ≡ left_line (view_standing standing.now)) }
+    ensures { Spells result (left_line (view_standing standing.now)) }
 {
     let path = standing_text(alloc, standing)?;
     left_joined(alloc, &path, standing_mark(standing))
 }
 
 fn left_joined(alloc: Global, path: &str, hidden: &str) -> Result<String, NoMemory>
-    ensures { IfOk result (λ text.
-        string_bytes text ≡ line (codes "left " ++ path.now ++ hidden.now)) }
+    ensures { Spells result (line (codes "left " ++ path.now ++ hidden.now)) }
 {
     format!(in alloc; "left {path}{hidden}\n")
 }
@@ -166,8 +156,7 @@ fn put_object(
     object: &Object,
     text: &mut String,
 ) -> Result<(), NoMemory>
-    ensures { OnOk result
-        (string_bytes text.new ≡ string_bytes text.old ++ object_line tree.now object.now) }
+    ensures { AddsText result text.old text.new (object_line tree.now object.now) }
 {
     let kind = kind_text(alloc, tree, object)?;
     let kind = kind.as_str();
@@ -179,8 +168,7 @@ fn put_object(
 
 /// What an object is, its path, and a file's length or the number of a folder's names.
 fn kind_text(alloc: Global, tree: &Tree, object: &Object) -> Result<String, NoMemory>
-    ensures { IfOk result (λ text.
-        string_bytes text ≡ kind_text tree.now object.now.path object.now.kind) }
+    ensures { Spells result (kind_text tree.now object.now.path object.now.kind) }
 {
     match object.kind {
         ObjectKind::File(length) => kind_line(alloc, "file", &object.path, length),
@@ -192,7 +180,7 @@ fn kind_text(alloc: Global, tree: &Tree, object: &Object) -> Result<String, NoMe
 }
 
 fn kind_line(alloc: Global, kind: &str, path: &Path, number: usize) -> Result<String, NoMemory>
-    ensures { IfOk result (λ text. string_bytes text ≡ kind_line kind.now path.now number) }
+    ensures { Spells result (kind_line kind.now path.now number) }
 {
     format!(in alloc; "{kind} {path} {number}")
 }
@@ -236,11 +224,8 @@ fn put_modules(
     weigh: &Weigh,
     text: &mut String,
 ) -> Result<(), NoMemory>
-    ensures { OnOk result
-        (string_bytes text.new
-        ≡ string_bytes text.old
-        ++ flat_map (module_line weigh.now.weights generation.now)
-        (lines_of generation.now)) }
+    ensures { AddsText result text.old text.new
+        (flat_map (module_line weigh.now.weights generation.now) (lines_of generation.now)) }
 {
     for (id, blocks) in generation.lines() {
         let line = module_text(alloc, generation, weigh, *id, *blocks)?;
@@ -257,8 +242,7 @@ fn module_text(
     blocks: u32,
 ) -> Result<String, NoMemory>
     requires { (1 ≤ id) × (id ≤ GREATEST_ID) }
-    ensures { IfOk result (λ text.
-        string_bytes text ≡ module_line weigh.now.weights generation.now (id, blocks)) }
+    ensures { Spells result (module_line weigh.now.weights generation.now (id, blocks)) }
 {
     let size = module_size(generation, id) as u64;
     let front = two_fields(alloc, "module", u64::from(id), "size", size)?;
@@ -291,10 +275,8 @@ fn put_cycle(
 ) -> Result<(), NoMemory>
     requires like { All IsSectionLike (cycle_sections weigh.now.weights generation.now) }
     requires rate { 1 ≤ bitrate }
-    ensures { OnOk result
-        (string_bytes text.new
-        ≡ string_bytes text.old
-        ++ cycle_line (length (cycle_of weigh.now.weights (lines_of generation.now)))
+    ensures { AddsText result text.old text.new
+        (cycle_line (length (cycle_items weigh.now.weights generation.now))
         (length (cycle_packets weigh.now.weights generation.now)) bitrate) }
 {
     let cycle = count_cycle(alloc, generation, weigh)?;
@@ -305,10 +287,9 @@ fn put_cycle(
 fn cycle_text(alloc: Global, cycle: Cycle, bitrate: u32) -> Result<String, NoMemory>
     requires rate { 1 ≤ bitrate }
     requires few { cycle.packets ≤ MOST_PACKETS }
-    ensures { IfOk result (λ text.
-        string_bytes text ≡ cycle_line cycle.sections cycle.packets bitrate) }
+    ensures { Spells result (cycle_line cycle.sections cycle.packets bitrate) }
 {
-    let bytes = 188 * cycle.packets;
+    let bytes = PACKET_LENGTH as u64 * cycle.packets;
     let time = time_of(bytes, bitrate);
     let front = two_fields(
         alloc,
@@ -329,15 +310,14 @@ fn two_fields(
     second: &str,
     other: u64,
 ) -> Result<String, NoMemory>
-    ensures { IfOk result (λ text.
-        string_bytes text ≡ with_number first.now number ++ 32 ∷ with_number second.now other) }
+    ensures { Spells result (with_number first.now number ++ 32 ∷ with_number second.now other) }
 {
     format!(in alloc; "{first} {number} {second} {other}")
 }
 
 /// The line of four fields, two by two.
 fn four_fields(alloc: Global, front: &str, back: &str) -> Result<String, NoMemory>
-    ensures { IfOk result (λ text. string_bytes text ≡ line (front.now ++ 32 ∷ back.now)) }
+    ensures { Spells result (line (front.now ++ 32 ∷ back.now)) }
 {
     format!(in alloc; "{front} {back}\n")
 }

@@ -1,9 +1,9 @@
 ghost use Rattle.std.specs.Prelude.{◌≡◌, ◌≤◌, ◌∷◌, [], Ok, IfOk, OnOk, map};
 ghost use Rattle.std.specs.String.{string_bytes};
-ghost use Rattle.oc_bytes.specs.Outcome.{Rose};
+ghost use Rattle.oc_bytes.specs.Outcome.{Faulted, Spells};
 ghost use Rattle.generation.specs.Layouts.{generation_of};
 ghost use Rattle.folder_store.specs.Surveys.{view_standing};
-ghost use Rattle.shell_streams.specs.Sending.{IsInTime, Puts};
+ghost use Rattle.shell_streams.specs.Sending.{IsInTime, Puts, IsFlushed};
 ghost use Rattle.publication_plan.specs.Inner.Judging.{IsAccepted, RefusalTells, FaultTells};
 ghost use Rattle.publication_plan.specs.Plans.{IsTextOf, NeedsFolder, Plans};
 ghost use Rattle.publication_plan.specs.Telling.{plan_text};
@@ -69,7 +69,7 @@ pub fn plan<O: Output, F: Folders>(
 ) -> Result<PlanEnd, OutputFault>
     requires rate { 1 ≤ bitrate }
     ensures plans { Plans folder.now weigh.now.weights carousel bitrate result (O.state out.old)
-        (O.state out.new) (F.tree folders.old) (Rose (F.faults folders.old) (F.faults folders.new))
+        (O.state out.new) (F.tree folders.old) (Faulted F.faults folders.old folders.new)
         (F.refused folders.new) }
     ensures name { (O.state out.new).name ≡ (O.state out.old).name }
     ensures in_time { IsInTime (O.state out.old) (O.state out.new) }
@@ -84,7 +84,7 @@ pub fn plan<O: Output, F: Folders>(
 /// Writes a text.
 fn write<O: Output>(text: &str, out: &mut O) -> Result<(), OutputFault>
     ensures puts { Puts result (O.state out.old) (O.state out.new) text.now }
-    ensures empty { OnOk result ((O.state out.new).pending ≡ []) }
+    ensures empty { OnOk result (IsFlushed (O.state out.new)) }
 {
     out.put(text.as_bytes())?;
     out.flush()
@@ -102,7 +102,7 @@ fn tell<F: Folders>(
     requires rate { 1 ≤ bitrate }
     ensures text { IfOk result (λ r.
         IsTextOf folder.now weigh.now.weights carousel bitrate (F.tree folders.old)
-        (Rose (F.faults folders.old) (F.faults folders.new)) (F.refused folders.new) r.end
+        (Faulted F.faults folders.old folders.new) (F.refused folders.new) r.end
         (string_bytes r.text)) }
     ensures needs { IfOk result (λ r. NeedsFolder folder.now (F.tree folders.old) (Ok r.end)) }
     ensures same { F.tree folders.new ≡ F.tree folders.old }
@@ -133,9 +133,8 @@ fn tell_tree(
 ) -> Result<String, NoMemory>
     requires rate { 1 ≤ bitrate }
     requires accepted { IsAccepted survey.now.edits.items tree }
-    ensures { IfOk result (λ text.
-        string_bytes text
-        ≡ plan_text weigh.now.weights bitrate (generation_of carousel (tree ∷ []))
+    ensures { Spells result
+        (plan_text weigh.now.weights bitrate (generation_of carousel (tree ∷ []))
         (map view_standing survey.now.left.items)) }
 {
     generations_are_of_the_lists();
@@ -176,7 +175,7 @@ fn tell_refusal<F: Folders>(
     refusal: &Refusal,
 ) -> Result<Told, NoMemory>
     ensures text { IfOk result (λ r.
-        RefusalTells (F.tree folders.old) (Rose (F.faults folders.old) (F.faults folders.new))
+        RefusalTells (F.tree folders.old) (Faulted F.faults folders.old folders.new)
         (F.refused folders.new) survey.now refusal.now r.end (string_bytes r.text)) }
     ensures same { F.tree folders.new ≡ F.tree folders.old }
     ensures later { F.faults folders.old ≤ F.faults folders.new }

@@ -3,12 +3,13 @@
 ghost use Rattle.std.specs.Prelude.{◌≡◌, ◌≤◌, ◌++◌, ◌∷◌, [], Some, None, IfOk, IsErrOf, IsSomeAnd, codes};
 ghost use Rattle.std.specs.Option.{option_map};
 ghost use Rattle.std.specs.String.{string_bytes};
-ghost use Rattle.oc_bytes.specs.Outcome.{Rose};
+ghost use Rattle.oc_bytes.specs.Outcome.{Faulted, Spells};
 ghost use Rattle.path_tree.specs.Edits.{apply_all};
-ghost use Rattle.folder_store.specs.Folders.{FolderTree, IsRefused, MayFail};
+ghost use Rattle.folder_store.specs.Folders.{IsRefused, MayFail, WhereTold};
 ghost use Rattle.folder_store.specs.Surveys.{view_survey};
 ghost use Rattle.publication_plan.specs.Inner.Judging.{SizeFails};
-ghost use Rattle.publication_plan.specs.Refusals.{IsNoFile, cause_text, limit_of, refused_path, size_at, size_in, size_told};
+ghost use Rattle.publication_plan.specs.Refusals.{IsNoFile, cause_text, limit_of, size_at, size_in, size_told};
+ghost use Rattle.publication_plan.specs.Inner.Refusals.{refused_path};
 ghost use Rattle.publication_plan.specs.Telling.{number_text, refused_line, unreadable_line};
 ghost use Rattle.shell_words.specs.Texts.{line};
 
@@ -36,7 +37,7 @@ pub(crate) fn refused_text(
     size: Option<u64>,
     limit: Option<u64>,
 ) -> Result<String, NoMemory>
-    ensures { IfOk result (λ text. string_bytes text ≡ refused_line cause.now size limit) }
+    ensures { Spells result (refused_line cause.now size limit) }
 {
     let size = number_text(alloc, size)?;
     let limit = number_text(alloc, limit)?;
@@ -44,8 +45,7 @@ pub(crate) fn refused_text(
 }
 
 fn joined(alloc: Global, cause: &str, size: &str, limit: &str) -> Result<String, NoMemory>
-    ensures { IfOk result (λ text.
-        string_bytes text ≡ line (codes "refused " ++ cause.now ++ size.now ++ limit.now)) }
+    ensures { Spells result (line (codes "refused " ++ cause.now ++ size.now ++ limit.now)) }
 {
     format!(in alloc; "refused {cause}{size}{limit}\n")
 }
@@ -57,8 +57,7 @@ pub(crate) fn rule_text(
     path: &str,
     limit: u64,
 ) -> Result<String, NoMemory>
-    ensures { IfOk result (λ text.
-        string_bytes text ≡ refused_line (rule.now ++ 32 ∷ path.now) None (Some limit)) }
+    ensures { Spells result (refused_line (rule.now ++ 32 ∷ path.now) None (Some limit)) }
 {
     let cause = format!(in alloc; "{rule} {path}")?;
     refused_text(alloc, &cause, None, Some(limit))
@@ -70,8 +69,7 @@ pub(crate) fn unread_text(
     edits: &[Edit],
     refusal: &Refusal,
 ) -> Result<String, NoMemory>
-    ensures { IfOk result (λ text.
-        string_bytes text ≡ unreadable_line (refused_path edits.now refusal.now)) }
+    ensures { Spells result (unreadable_line (refused_path edits.now refusal.now)) }
 {
     if let Refusal::Edit(place, _) = refusal {
         if let Some(edit) = edits.get(*place) {
@@ -83,7 +81,7 @@ pub(crate) fn unread_text(
 }
 
 fn number_text(alloc: Global, number: Option<u64>) -> Result<String, NoMemory>
-    ensures { IfOk result (λ text. string_bytes text ≡ number_text number) }
+    ensures { Spells result (number_text number) }
 {
     match number {
         Some(number) => format!(in alloc; " {number}"),
@@ -93,7 +91,7 @@ fn number_text(alloc: Global, number: Option<u64>) -> Result<String, NoMemory>
 
 /// The cause of a refusal. A file that is too large is named by its path.
 pub(crate) fn cause_of(alloc: Global, edits: &[Edit], refusal: &Refusal) -> Result<String, NoMemory>
-    ensures { IfOk result (λ text. string_bytes text ≡ cause_text edits.now refusal.now) }
+    ensures { Spells result (cause_text edits.now refusal.now) }
 {
     match refusal {
         Refusal::Edit(place, EditFault::FileTooLarge) => match edits.get(*place) {
@@ -130,12 +128,11 @@ pub(crate) fn size_of<F: Folders>(
     refusal: &Refusal,
 ) -> Result<Option<u64>, FolderFault>
     ensures size { IfOk result (λ n.
-        (t : FolderTree)
-        → F.tree folders.old ≡ Some t
-        → n ≡ size_told t (view_survey survey.now) (apply_all [] survey.now.edits.items)
-        refusal.now) }
+        WhereTold (F.tree folders.old) (λ t.
+        n ≡ size_told t (view_survey survey.now) (apply_all [] survey.now.edits.items)
+        refusal.now)) }
     ensures fault { IsErrOf result FolderFault.Failed
-        → SizeFails (F.tree folders.old) (Rose (F.faults folders.old) (F.faults folders.new))
+        → SizeFails (F.tree folders.old) (Faulted F.faults folders.old folders.new)
         (F.refused folders.new) survey.now refusal.now }
     ensures same { F.tree folders.new ≡ F.tree folders.old }
     ensures later { F.faults folders.old ≤ F.faults folders.new }
@@ -153,11 +150,9 @@ fn file_size<F: Folders>(
     large: &Option<String>,
 ) -> Result<Option<u64>, FolderFault>
     ensures size { IfOk result (λ n.
-        (t : FolderTree)
-        → F.tree folders.old ≡ Some t
-        → n ≡ size_at t (option_map string_bytes large.now)) }
+        WhereTold (F.tree folders.old) (λ t. n ≡ size_at t (option_map string_bytes large.now))) }
     ensures fault { IsErrOf result FolderFault.Failed
-        → MayFail (Rose (F.faults folders.old) (F.faults folders.new)) (F.tree folders.old)
+        → MayFail (Faulted F.faults folders.old folders.new) (F.tree folders.old)
         (IsNoFile (option_map string_bytes large.now)) }
     ensures failed { IsErrOf result FolderFault.Failed
         → IsSomeAnd (option_map string_bytes large.now) (IsRefused (F.refused folders.new)) }

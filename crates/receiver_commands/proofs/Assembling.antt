@@ -3,8 +3,8 @@ use Rattle.std.proofs.Common.{◌≡◌, List, [], Err, Option, Some, inl, inr, 
 use Rattle.oc_bytes.specs.Outcome.{Known}
 use Rattle.block_assembler.specs.Blocks.{join_all}
 use Rattle.shell_streams.specs.Cuts.{Bytes}
-use Rattle.shell_streams.specs.Held.{Stopped}
-use Rattle.shell_streams.specs.Carriers.{is_over}
+use Rattle.shell_streams.specs.Packets.{Stopped}
+use Rattle.shell_streams.specs.Carriers.{sections_by}
 use Rattle.shell_streams.specs.Sending.{OutputState, Puts}
 use Rattle.shell_streams.specs.declared.input.InputFault.{InputFault}
 use Rattle.shell_streams.specs.declared.input.InputFault.TheVariants as inputs
@@ -14,7 +14,8 @@ use Rattle.shell_streams.proofs.CallerLemmas.{told_weaker, all_rear}
 use Rattle.receiver_commands.specs.Over.{Over, sink_over, Failed, IsUntouched, TakesPrefix}
 use Rattle.receiver_commands.specs.Input.{Asked, blocks_among}
 use Rattle.receiver_commands.specs.Replies.{Hears}
-use Rattle.receiver_commands.specs.Assemble.{module_carrier, IsModule, EndsModule, Assembles}
+use Rattle.receiver_commands.specs.Assemble.{module_carrier, EndsModule, Assembles}
+use Rattle.receiver_commands.specs.Inner.Assemble.{IsModule}
 use Rattle.receiver_commands.specs.Statuses.{input_status, output_status}
 use Rattle.receiver_commands.specs.declared.status.Status.{Status}
 use Rattle.receiver_commands.specs.declared.status.Status.TheVariants as status
@@ -25,14 +26,14 @@ use Rattle.receiver_commands.proofs.Writing.{writes_prefix}
 pub assembles_nothing : (m : Asked) (source sink : Over Bytes) → TakesPrefix source → IsUntouched sink → Assembles m status.NoMemory source sink
 assembles_nothing m source sink takes none = record { ends = inl none; takes = takes }
 
-ends_stopped : (m : Asked) (source sink : Over Bytes) (fault : InputFault) → Known source.before source.after (Stopped (is_over module_carrier) fault)
+ends_stopped : (m : Asked) (source sink : Over Bytes) (fault : InputFault) → Known source.before source.after (Stopped (sections_by module_carrier).goes_on fault)
     → (fault ≡ inputs.Failed → Failed source) → IsUntouched sink → EndsModule m source sink (input_status fault)
 ends_stopped m source sink inputs.Failed t cause none = (cause refl, none)
 ends_stopped m source sink inputs.TooLong t cause none = (goes_on source.before source.after t, none)
 ends_stopped m source sink inputs.NoMemory t cause none = inl none
 
 -- a fault stopped the reading
-pub assembles_stopped : (m : Asked) (source sink : Over Bytes) (fault : InputFault) → Known source.before source.after (Stopped (is_over module_carrier) fault)
+pub assembles_stopped : (m : Asked) (source sink : Over Bytes) (fault : InputFault) → Known source.before source.after (Stopped (sections_by module_carrier).goes_on fault)
     → (fault ≡ inputs.Failed → Failed source) → IsUntouched sink → Assembles m (input_status fault) source sink
 assembles_stopped m source sink fault t cause none = record { ends = ends_stopped m source sink fault t cause none; takes = told_weaker t (λ x y s. s.rear) }
 

@@ -8,7 +8,8 @@ use Rattle.shell_streams.specs.declared.output.OutputFault.{OutputFault}
 use Rattle.shell_streams.specs.declared.output.OutputFault.TheVariants as outputs
 use Rattle.receiver_commands.specs.Over.{sink_over, WritesAll}
 use Rattle.receiver_commands.specs.Statuses.{output_status}
-use Rattle.receiver_commands.specs.Why.{EndsWhy, SaysWhy, why_status}
+use Rattle.receiver_commands.specs.Why.{EndsWhy, SaysWhy}
+use Rattle.receiver_commands.specs.Inner.Why.{why_status}
 use Rattle.receiver_commands.proofs.Writing.{writes_all, writes_prefix}
 
 -- the whole line was written

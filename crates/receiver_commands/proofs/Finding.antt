@@ -10,7 +10,7 @@ use Rattle.shell_streams.specs.declared.output.OutputFault.{OutputFault}
 use Rattle.receiver_commands.specs.Over.{Over, sink_over}
 use Rattle.receiver_commands.specs.Replies.{Replies}
 use Rattle.receiver_commands.specs.Find.{is_at, found_line, Finds}
-use Rattle.receiver_commands.specs.Statuses.{answer_status}
+use Rattle.receiver_commands.specs.Inner.Statuses.{answer_status}
 use Rattle.receiver_commands.proofs.Replying.{replies_written}
 
 -- the packets were read, and what was found by them was put

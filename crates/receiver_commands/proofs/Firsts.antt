@@ -5,7 +5,8 @@ use Rattle.std.proofs.lemmas.List.{take_more}
 use Rattle.std.proofs.lemmas.List.Elements.{filter_passes, All-weaker}
 use Rattle.std.proofs.lemmas.List.Kept.{AllPairs-cons, AllPairs-filter}
 use Rattle.path_listing.proofs.CallerLemmas.{first_only-append, rest_of-one}
-use Rattle.receiver_commands.specs.Firsts.{first_only, with_new}
+use Rattle.receiver_commands.specs.Firsts.{first_only}
+use Rattle.receiver_commands.specs.Inner.Firsts.{with_new}
 
 -- one element more, which stood before or didn't
 first_met : {A : Type 0} (same : A → A → Bool) (xs : List A) (z : A) → list_any (λ x. same x z) xs ≡ true → first_only same (xs ++ z ∷ []) ≡ first_only same xs

@@ -7,7 +7,8 @@ use Rattle.std.proofs.lemmas.List.Folds.{concat-append}
 use Rattle.std.proofs.Math.Seq.{take-suc}
 use Rattle.section_stream.specs.Kept.{view_bytes}
 use Rattle.shell_streams.specs.Cuts.{Bytes}
-use Rattle.receiver_commands.specs.Accepted.{is_accepted, accepted_one, accepted_bytes}
+use Rattle.receiver_commands.specs.Accepted.{is_accepted, accepted_bytes}
+use Rattle.receiver_commands.specs.Inner.Accepted.{accepted_one}
 
 pub accepted-append : (xs ys : List Bytes) → accepted_bytes (xs ++ ys) ≡ accepted_bytes xs ++ accepted_bytes ys
 accepted-append xs ys = ap concat (filter-append is_accepted xs ys) ∙ concat-append (filter is_accepted xs) (filter is_accepted ys)

@@ -5,7 +5,7 @@ use Rattle.oc_bytes.specs.Outcome.{Known}
 use Rattle.reception_report.specs.Report.{report_text, sync_told}
 use Rattle.reception_report.specs.declared.sync.SyncPlace.{SyncPlace}
 use Rattle.shell_streams.specs.Cuts.{Bytes}
-use Rattle.shell_streams.specs.Held.{Stopped}
+use Rattle.shell_streams.specs.Packets.{Stopped}
 use Rattle.shell_streams.specs.Carriers.{all_packets}
 use Rattle.shell_streams.specs.Sending.{OutputState, Puts}
 use Rattle.shell_streams.specs.declared.input.InputFault.{InputFault}
@@ -15,7 +15,8 @@ use Rattle.shell_streams.specs.declared.output.OutputFault.TheVariants as output
 use Rattle.shell_streams.proofs.CallerLemmas.{told_weaker, all_rear}
 use Rattle.receiver_commands.specs.Over.{Over, sink_over, Failed, IsUntouched, TakesPrefix, WritesAll}
 use Rattle.receiver_commands.specs.Statuses.{input_status}
-use Rattle.receiver_commands.specs.Inspect.{ReadsPackets, EndsInspect, Inspects, sync_status, report_status}
+use Rattle.receiver_commands.specs.Inspect.{ReadsPackets, EndsInspect, Inspects}
+use Rattle.receiver_commands.specs.Inner.Inspect.{sync_status, report_status}
 use Rattle.receiver_commands.specs.declared.status.Status.TheVariants as status
 use Rattle.receiver_commands.proofs.Replying.{goes_on}
 use Rattle.receiver_commands.proofs.Writing.{writes_all, writes_prefix}

@@ -12,7 +12,7 @@ use Rattle.shell_streams.specs.Cuts.{Bytes}
 use Rattle.shell_streams.specs.Carriers.{all_packets, HeardAll}
 use Rattle.shell_streams.proofs.CallerLemmas.{told_weaker}
 use Rattle.receiver_commands.specs.OpenId.{found_after, or_then, found_within, first_found, sections_after, sections_among, sections_by_id}
-use Rattle.receiver_commands.specs.Seeking.{Seeks, Hears, IsAt, HasHeard}
+use Rattle.receiver_commands.specs.Inner.Seeking.{Seeks, Hears, IsAt, HasHeard}
 use Rattle.receiver_commands.specs.declared.open_id.Seeker.{Seeker}
 
 -- ---- where it is found, with one packet more

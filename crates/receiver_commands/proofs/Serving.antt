@@ -21,8 +21,10 @@ use Rattle.shell_streams.specs.declared.output.OutputFault.{OutputFault}
 use Rattle.receiver_commands.specs.Over.{Over, sink_over, IsUntouched}
 use Rattle.receiver_commands.specs.Open.{AllAnswers, asks_paths, reply_by}
 use Rattle.receiver_commands.specs.Replies.{Replies}
-use Rattle.receiver_commands.specs.Statuses.{answer_status, table_status}
-use Rattle.receiver_commands.specs.Mounts.{mounts_in, as_answer, mounted_answer, root_text, AreItsAnswers, EndsMounts, ServesMounts}
+use Rattle.receiver_commands.specs.Statuses.{table_status}
+use Rattle.receiver_commands.specs.Inner.Statuses.{answer_status}
+use Rattle.receiver_commands.specs.Mounts.{mounts_in, as_answer, mounted_answer, AreItsAnswers, EndsMounts, ServesMounts}
+use Rattle.receiver_commands.specs.Inner.Mounts.{root_text}
 use Rattle.receiver_commands.specs.declared.status.Status.{Status}
 use Rattle.receiver_commands.specs.declared.status.Status.TheVariants as status
 use Rattle.receiver_commands.proofs.Replying.{replies_written}

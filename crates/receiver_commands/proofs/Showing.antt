@@ -21,7 +21,7 @@ use Rattle.shell_streams.specs.Cuts.{Bytes}
 use Rattle.shell_words.specs.Texts.{answered_line}
 use Rattle.receiver_commands.specs.Firsts.{first_only}
 use Rattle.receiver_commands.specs.Watch.{path_at, first_watchers}
-use Rattle.receiver_commands.specs.Watching.{StandsFor}
+use Rattle.receiver_commands.specs.Inner.Watching.{StandsFor}
 use Rattle.receiver_commands.specs.declared.watch.Watcher.{Watcher}
 use Rattle.receiver_commands.proofs.Firsts.{firsts_differ}
 

@@ -18,7 +18,7 @@ use Rattle.watch_desk.specs.declared.notice.Notice.{Notice}
 use Rattle.watch_desk.proofs.CallerLemmas.{told_more}
 use Rattle.shell_streams.specs.Cuts.{Bytes}
 use Rattle.receiver_commands.specs.Watch.{notice_line, told_line, watch_text}
-use Rattle.receiver_commands.specs.Watching.{lines_after, lines_behind}
+use Rattle.receiver_commands.specs.Inner.Watching.{lines_after, lines_behind}
 
 -- ---- the lines of what was told stay
 

@@ -9,7 +9,7 @@ use Rattle.folder_extract.specs.declared.extracting.Extracted.TheVariants as end
 use Rattle.path_resolver.specs.Resolving.{Held, answer_of}
 use Rattle.tuner_core.specs.LookBack.{answer_after}
 use Rattle.shell_streams.specs.Cuts.{Bytes}
-use Rattle.shell_streams.specs.Held.{Stopped}
+use Rattle.shell_streams.specs.Packets.{Stopped}
 use Rattle.shell_streams.specs.Carriers.{sections_by}
 use Rattle.shell_streams.specs.Sending.{IsInTime, OutputState}
 use Rattle.shell_streams.specs.declared.carrier.Carrier.TheVariants as carriers
@@ -22,7 +22,8 @@ use Rattle.receiver_commands.specs.Over.{Over, sink_over, Failed, TakesPrefix}
 use Rattle.receiver_commands.specs.Replies.{Hears}
 use Rattle.receiver_commands.specs.Open.{AllAnswers}
 use Rattle.receiver_commands.specs.Statuses.{input_status}
-use Rattle.receiver_commands.specs.Extract.{all_entries, NothingMade, EndsExtract, Extracts, extract_status}
+use Rattle.receiver_commands.specs.Extract.{all_entries, NothingMade, EndsExtract, Extracts}
+use Rattle.receiver_commands.specs.Inner.Extract.{extract_status}
 use Rattle.receiver_commands.specs.declared.status.Status.TheVariants as status
 use Rattle.receiver_commands.proofs.Answering.{HoldsHeard}
 use Rattle.receiver_commands.proofs.Replying.{goes_on}

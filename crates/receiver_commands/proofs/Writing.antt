@@ -15,18 +15,20 @@ writes_all {text = text} before after puts = told_weaker puts.ok (λ x y s.
 pub writes_prefix : {T : Type 0} {f : OutputFault} {old new : OutputState} {text : Bytes} → old.pending ≡ [] → Puts {T = T} (Err f) old new text → WritesPrefix (sink_over old new) text
 writes_prefix {text = text} before puts = told_weaker puts.err (λ x y e. record {
   part = e.sends.sent;
+  rest = e.rest;
+  output_is = sym (ap (λ bs. bs ++ text) before) ∙ e.sends.split;
   after_is = e.sends.after_is;
-  prefix = record { rest = e.rest; whole_is = sym (ap (λ bs. bs ++ text) before) ∙ e.sends.split };
 })
 
 -- a prefix of a text is one of a longer text
 pub prefix_here : {T : Type 0} {x : T} {old new : OutputState} {text : Bytes} → old.pending ≡ [] → Puts (Ok x) old new text → WritesPrefix (sink_over old new) text
 prefix_here {new = new} {text = text} before puts = told_weaker puts.ok (λ x y s. record {
   part = s.sent;
+  rest = new.pending;
+  output_is = sym (ap (λ bs. bs ++ text) before) ∙ s.split;
   after_is = s.after_is;
-  prefix = record { rest = new.pending; whole_is = sym (ap (λ bs. bs ++ text) before) ∙ s.split };
 })
 
 -- nothing of it
 pub prefix_none : (o : OutputState) (text : Bytes) → WritesPrefix (sink_over o o) text
-prefix_none o text = told_same o.written (λ x. record { part = []; after_is = sym (append-nil x); prefix = record { rest = text; whole_is = refl } })
+prefix_none o text = told_same o.written (λ x. record { part = []; rest = text; output_is = refl; after_is = sym (append-nil x) })

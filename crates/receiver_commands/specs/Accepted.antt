@@ -1,5 +1,5 @@
 -- The sections that are recorded.
-use Rattle.std.specs.Prelude.{Bool, List, [], if◌then◌else◌}
+use Rattle.std.specs.Prelude.{Bool, List}
 use Rattle.std.specs.List.{concat, filter}
 use Rattle.std.specs.Result.{is_ok}
 use Rattle.dsmcc_section.specs.Sections as sections
@@ -8,9 +8,6 @@ use Rattle.shell_streams.specs.Cuts.{Bytes}
 -- a section that reads
 abbrev pub is_accepted : Bytes → Bool
 is_accepted candidate = is_ok (sections.read candidate)
-
-abbrev pub accepted_one : Bytes → Bytes
-accepted_one candidate = if is_accepted candidate then candidate else []
 
 -- those that read, unchanged and in order
 abbrev pub accepted_bytes : List Bytes → Bytes

@@ -8,8 +8,7 @@ use Rattle.shell_streams.specs.Packets.{packets_of, candidates_of}
 use Rattle.shell_streams.specs.Carriers.{sections_by}
 use Rattle.shell_streams.specs.declared.carrier.Carrier.TheVariants as carriers
 use Rattle.shell_streams.specs.declared.packets.TheConstants.{MOST_PACKETS}
-use Rattle.receiver_commands.specs.Over.{Over, TakesPrefix, WritesAll, WritesPrefix}
-use Rattle.receiver_commands.specs.Ends.{EndsReading}
+use Rattle.receiver_commands.specs.Over.{Over, TakesPrefix, WritesAll, WritesPrefix, EndsReading}
 use Rattle.receiver_commands.specs.Replies.{Hears}
 use Rattle.receiver_commands.specs.declared.status.Status.{Status}
 use Rattle.receiver_commands.specs.declared.status.Status.TheVariants as status

@@ -1,5 +1,5 @@
 -- What `assemble ID VERSION SIZE DOWNLOAD` promises: the first fitting blocks of the input's sections make the module.
-use Rattle.std.specs.Prelude.{◌≡◌, ℕ, List, Option, Some}
+use Rattle.std.specs.Prelude.{◌≡◌, ℕ, List, Some}
 use Rattle.std.specs.List.{position}
 use Rattle.std.specs.Option.{is_none}
 use Rattle.block_assembler.specs.Blocks.{join_all}
@@ -7,9 +7,8 @@ use Rattle.shell_streams.specs.Cuts.{Bytes}
 use Rattle.shell_streams.specs.Carriers.{sections_by}
 use Rattle.shell_streams.specs.declared.carrier.Carrier.{Carrier}
 use Rattle.shell_streams.specs.declared.carrier.Carrier.TheVariants as carriers
-use Rattle.receiver_commands.specs.Over.{Over, Failed, IsUntouched, TakesPrefix, WritesAll, WritesPrefix}
+use Rattle.receiver_commands.specs.Over.{Over, IsUntouched, TakesPrefix, WritesAll, WritesPrefix, EndsRead}
 use Rattle.receiver_commands.specs.Input.{Asked, blocks_among}
-use Rattle.receiver_commands.specs.Ends.{EndsRead}
 use Rattle.receiver_commands.specs.Replies.{Hears}
 use Rattle.receiver_commands.specs.declared.status.Status.{Status}
 use Rattle.receiver_commands.specs.declared.status.Status.TheVariants as status
@@ -41,14 +40,6 @@ pub record Misses (m : Asked) (block : ℕ) (source sink : Over Bytes) : Type 0 
   pub hears : Hears module_carrier source sections
   pub first : position is_none (blocks_among m sections) ≡ Some block
   pub nothing : IsUntouched sink
-
--- what is written of blocks that were gathered, with nothing to be read any more
-abbrev pub IsModule : List (Option Bytes) → Over Bytes → Status → Type 0
-IsModule blocks sink status.Done = (bytes : Bytes) × (join_all blocks ≡ Some bytes) × WritesAll sink bytes
-IsModule blocks sink (status.Incomplete block) = (position is_none blocks ≡ Some block) × IsUntouched sink
-IsModule blocks sink status.WriteFault = Failed sink × ((bytes : Bytes) × (join_all blocks ≡ Some bytes) × WritesPrefix sink bytes)
-IsModule blocks sink status.NoMemory = (bytes : Bytes) × (join_all blocks ≡ Some bytes) × WritesPrefix sink bytes
-IsModule blocks sink _ = ⊥
 
 abbrev pub AssemblesAll : Asked → Over Bytes → Over Bytes → Status → Type 0
 AssemblesAll m source sink status.Done = Assembled m source sink

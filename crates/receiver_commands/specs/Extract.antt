@@ -1,6 +1,6 @@
 -- What `extract PID FOLDER` promises: the sections of one PID are heard by one receiver, and each file and folder that it then answers is
 -- written into a folder that is made.
-use Rattle.std.specs.Prelude.{◌≡◌, ℕ, Bool, true, false, List, ◌∷◌, ◌++◌, Result, Ok, Err}
+use Rattle.std.specs.Prelude.{◌≡◌, ℕ, Bool, true, false, List, ◌∷◌, ◌++◌}
 use Rattle.path_tree.specs.Paths.{PathNames}
 use Rattle.path_resolver.specs.declared.answer.Answer.{Answer}
 use Rattle.folder_store.specs.Folders.{FolderTree, MayFail}
@@ -9,18 +9,13 @@ use Rattle.folder_store.specs.Walk.{text_below}
 use Rattle.folder_extract.specs.Naming.{can_stand}
 use Rattle.folder_extract.specs.Telling.{all_extracted, extract_text, lines_for, listed}
 use Rattle.folder_extract.specs.Extracting.{entries_for, WrotePart}
-use Rattle.folder_extract.specs.declared.extracting.Extracted.{Extracted}
-use Rattle.folder_extract.specs.declared.extracting.Extracted.TheVariants as ended
 use Rattle.tuner_core.specs.LookBack.{answer_after}
 use Rattle.shell_streams.specs.Cuts.{Bytes}
 use Rattle.shell_streams.specs.Carriers.{sections_by}
 use Rattle.shell_streams.specs.declared.carrier.Carrier.TheVariants as carriers
-use Rattle.shell_streams.specs.declared.output.OutputFault.{OutputFault}
 use Rattle.shell_words.specs.Texts.{is_found}
-use Rattle.receiver_commands.specs.Over.{Over, Failed, IsUntouched, TakesPrefix, WritesAll, WritesPrefix}
-use Rattle.receiver_commands.specs.Ends.{EndsRead}
+use Rattle.receiver_commands.specs.Over.{Over, Failed, IsUntouched, TakesPrefix, WritesAll, WritesPrefix, EndsRead}
 use Rattle.receiver_commands.specs.Replies.{Hears}
-use Rattle.receiver_commands.specs.Statuses.{output_status}
 use Rattle.receiver_commands.specs.declared.status.Status.{Status}
 use Rattle.receiver_commands.specs.declared.status.Status.TheVariants as status
 
@@ -82,11 +77,3 @@ EndsExtract pid folder source sink store =
 pub record Extracts (pid : ℕ) (folder : Bytes) (s : Status) (source sink : Over Bytes) (store : Over FolderTree) : Type 0 where
   pub ends : EndsExtract pid folder source sink store s
   pub takes : TakesPrefix source
-
--- ---- the status of an extraction
-
-abbrev pub extract_status : Result Extracted OutputFault → Status
-extract_status (Ok ended.All) = status.Done
-extract_status (Ok ended.NotAll) = status.NotAll
-extract_status (Ok ended.Failed) = status.FolderFault
-extract_status (Err fault) = output_status fault

@@ -1,5 +1,5 @@
 -- What `find CAROUSEL` promises: where the carousel is, by the tables in all packets of the input, is written.
-use Rattle.std.specs.Prelude.{ℕ, Bool, true, false, codes}
+use Rattle.std.specs.Prelude.{ℕ, Bool, true, false, List, codes}
 use Rattle.std.specs.Fmt.{decimal}
 use Rattle.psi_tables.specs.declared.finder.Find.{Find}
 use Rattle.psi_tables.specs.declared.finder.Find.TheVariants.{NoPat, NotNamed, At}
@@ -24,7 +24,7 @@ found_line NoPat = line (codes "no-pat")
 found_line NotNamed = line (codes "not-named")
 found_line (At pid) = line (decimal pid)
 
-abbrev pub place_of : ℕ → Reply
+abbrev pub place_of : ℕ → Reply (List Bytes)
 place_of carousel = record { text = λ packets. found_line (found_in carousel packets); all = λ packets. is_at (found_in carousel packets) }
 
 -- ---- how it ends

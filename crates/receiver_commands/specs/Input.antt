@@ -4,13 +4,13 @@ use Rattle.std.specs.Result.{result_ok}
 use Rattle.ddb_block.specs.Blocks as ddb
 use Rattle.dsi_dii.specs.Controls.{DiiFields}
 use Rattle.dsi_dii.specs.declared.ModuleLine.{ModuleLine}
-use Rattle.module_cache.specs.LookBack as back
+use Rattle.module_cache.specs.Turns as back
 use Rattle.dsmcc_section.specs.Sections as sections
 use Rattle.dsmcc_section.specs.declared.Table.{Table}
 use Rattle.dsmcc_section.specs.declared.Table.TheVariants.{Control, Blocks}
 use Rattle.dsmcc_section.specs.declared.Skip.{Skip}
 use Rattle.shell_streams.specs.Cuts.{Bytes}
-use Rattle.dsi_dii.specs.declared.TheConstants.{BLOCK_SIZE}
+use Rattle.receiver_commands.specs.declared.assemble.TheConstants.{ASSEMBLED_BLOCK}
 
 -- the module that a command asks for: its id, version and size, and the download that carries it
 pub record Asked : Type 0 where
@@ -39,7 +39,12 @@ abbrev pub asked_line : Asked → ModuleLine
 asked_line m = record { id = m.id; size = m.size; version = m.version; compressed = false }
 
 abbrev pub asked_dii : Asked → DiiFields
-asked_dii m = record { download = m.download; block_size = BLOCK_SIZE; transaction = 0; modules = asked_line m ∷ [] }
+asked_dii m = record {
+  download = m.download;
+  block_size = ASSEMBLED_BLOCK;
+  transaction = 0;
+  modules = asked_line m ∷ [];
+}
 
 -- the blocks of the module by rising number, where they are there: of each the first of these sections that fits
 abbrev pub blocks_among : Asked → List Bytes → List (Option Bytes)

@@ -1,16 +1,13 @@
 -- What `inspect PID` promises: all packets of the input are heard by one receiver, and a report on what it holds and passed over is
 -- written. Where the input isn't one of packets, that is said beside the status.
-use Rattle.std.specs.Prelude.{◌≡◌, ℕ, List, Option, Some, None, Result, Ok, Err}
+use Rattle.std.specs.Prelude.{◌≡◌, ℕ, List, Option, Some, None}
 use Rattle.oc_bytes.specs.Outcome.{Known}
 use Rattle.reception_report.specs.Report.{report_text, sync_told, tail_count}
 use Rattle.reception_report.specs.declared.sync.SyncPlace.{SyncPlace}
 use Rattle.shell_streams.specs.Cuts.{Bytes}
 use Rattle.shell_streams.specs.Carriers.{all_packets}
-use Rattle.shell_streams.specs.declared.output.OutputFault.{OutputFault}
-use Rattle.receiver_commands.specs.Over.{Over, IsUntouched, TakesPrefix, WritesAll, WritesPrefix}
-use Rattle.receiver_commands.specs.Ends.{EndsRead}
+use Rattle.receiver_commands.specs.Over.{Over, IsUntouched, TakesPrefix, WritesAll, WritesPrefix, EndsRead}
 use Rattle.receiver_commands.specs.Replies.{ReadsAll}
-use Rattle.receiver_commands.specs.Statuses.{output_status}
 use Rattle.receiver_commands.specs.declared.status.Status.{Status}
 use Rattle.receiver_commands.specs.declared.status.Status.TheVariants as status
 
@@ -50,13 +47,3 @@ EndsInspect pid source sink = EndsRead all_packets.goes_on (ReportsAll pid sourc
 pub record Inspects (pid : ℕ) (s : Status) (source sink : Over Bytes) : Type 0 where
   pub ends : EndsInspect pid source sink s
   pub takes : TakesPrefix source
-
--- ---- the status of a report that was written
-
-abbrev pub sync_status : Option SyncPlace → Status
-sync_status None = status.Done
-sync_status (Some place) = status.NotPackets place
-
-abbrev pub report_status : Option SyncPlace → Result (Unit {0}) OutputFault → Status
-report_status sync (Ok done) = sync_status sync
-report_status sync (Err fault) = output_status fault

@@ -1,6 +1,6 @@
 -- What `mounts TABLE PATH..` promises: the packets of the input are handed to a table of carousels, each under a name and on a PID of its
 -- own, and the answers that it then gives are written as `open` writes them. A table that breaks a rule is refused.
-use Rattle.std.specs.Prelude.{◌≡◌, ◌⊎◌, ℕ, List, [], ◌∷◌, ◌++◌, map, Option, Some, None, codes}
+use Rattle.std.specs.Prelude.{◌≡◌, ◌⊎◌, List, map, Option, Some, None}
 use Rattle.path_tree.specs.Paths.{PathNames}
 use Rattle.path_resolver.specs.declared.answer.Answer.{Answer}
 use Rattle.path_resolver.specs.declared.answer.Answer.TheVariants as answers
@@ -11,7 +11,6 @@ use Rattle.mount_table.specs.declared.mounts.Mounted.TheVariants.{Root, NoMount,
 use Rattle.mount_table.specs.Mounts.{refusal_of, IsTableOf, names_of, mounted_after}
 use Rattle.mount_table.specs.Stands.{MountsState, StandsFor, mounts_of}
 use Rattle.shell_words.specs.Values.{Entry}
-use Rattle.shell_words.specs.Texts.{line, with_number, answered_line, tail_of}
 use Rattle.shell_streams.specs.Cuts.{Bytes}
 use Rattle.shell_streams.specs.Carriers.{all_packets}
 use Rattle.receiver_commands.specs.Over.{Over, IsUntouched}
@@ -39,14 +38,6 @@ as_answer table (At pid a) = a
 -- the answer to each path after these packets
 abbrev pub mounted_answer : List Mount → List Bytes → AllAnswers
 mounted_answer table packets p = as_answer table (mounted_after table packets p)
-
--- the line of a root of so many names
-abbrev pub root_line : ℕ → Bytes
-root_line n = line (47 ∷ 32 ∷ with_number (codes "folder") n)
-
--- what is written of the root
-abbrev pub root_text : List Mount → Bytes
-root_text table = answered_line [] (answers.Folder (names_of table)) ++ tail_of (answers.Folder (names_of table))
 
 -- these are a table's answers, by packets that it stands for
 pub record AreItsAnswers (m : MountsState) (answer : AllAnswers) : Type 0 where

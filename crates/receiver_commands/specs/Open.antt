@@ -1,6 +1,6 @@
 -- What `open sections PATH..`, `open PID PATH..` and `list PID` promise: the sections of the input
 -- are heard by one receiver, and the answers that it then gives are written.
-use Rattle.std.specs.Prelude.{Bool, List}
+use Rattle.std.specs.Prelude.{List}
 use Rattle.std.specs.List.{list_all}
 use Rattle.path_tree.specs.Paths.{PathNames}
 use Rattle.path_resolver.specs.declared.answer.Answer.{Answer}
@@ -20,28 +20,20 @@ use Rattle.receiver_commands.specs.declared.status.Status.{Status}
 abbrev pub AllAnswers : Type 0
 AllAnswers = PathNames → Answer
 
--- the text of the answers, and whether each path asked for is a file or a folder
-pub record Question : Type 0 where
-  pub text : AllAnswers → Bytes
-  pub all : AllAnswers → Bool
-
--- `open`: these paths
-abbrev pub asks_paths : List PathNames → Question
+-- `open`: the answers to these paths, and whether each is a file or a folder
+abbrev pub asks_paths : List PathNames → Reply AllAnswers
 asks_paths paths = record { text = λ answer. open_text answer paths; all = λ answer. list_all (λ p. is_found (answer p)) paths }
 
 -- `list`: all paths from the root on
-abbrev pub asks_all : Question
+abbrev pub asks_all : Reply AllAnswers
 asks_all = record { text = list_text; all = all_listed }
 
 -- what is said to it, where these are the answers after what was read
-abbrev pub reply_by : (List Bytes → AllAnswers) → Question → Reply
+abbrev pub reply_by : (List Bytes → AllAnswers) → Reply AllAnswers → Reply (List Bytes)
 reply_by answers question = record { text = λ taken. question.text (answers taken); all = λ taken. question.all (answers taken) }
-
--- what a receiver that heard these sections says to it
-abbrev pub answers_to : Question → Reply
-answers_to question = reply_by answer_after question
 
 -- ---- how it ends
 
-abbrev pub Answers : Carrier → Question → Status → Over Bytes → Over Bytes → Type 0
-Answers carrier question = Replies (sections_by carrier) (answers_to question)
+-- a receiver that heard these sections answers
+abbrev pub Answers : Carrier → Reply AllAnswers → Status → Over Bytes → Over Bytes → Type 0
+Answers carrier question = Replies (sections_by carrier) (reply_by answer_after question)

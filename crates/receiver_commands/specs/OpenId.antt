@@ -9,9 +9,10 @@ use Rattle.psi_tables.specs.Finding.{found_in}
 use Rattle.shell_streams.specs.Cuts.{Bytes}
 use Rattle.shell_streams.specs.Packets.{packets_of, is_over_packets}
 use Rattle.shell_streams.specs.Carriers.{Reading}
+use Rattle.tuner_core.specs.LookBack.{answer_after}
 use Rattle.receiver_commands.specs.Over.{Over}
 use Rattle.receiver_commands.specs.Replies.{Replies}
-use Rattle.receiver_commands.specs.Open.{asks_paths, answers_to}
+use Rattle.receiver_commands.specs.Open.{asks_paths, reply_by}
 use Rattle.receiver_commands.specs.declared.status.Status.{Status}
 use Rattle.shell_streams.specs.declared.packets.TheConstants.{MOST_PACKETS}
 
@@ -51,4 +52,4 @@ sections_by_id carousel = record { standing_in = λ input. sections_among carous
 
 abbrev pub OpensId : (carousel : ℕ) (paths : List PathNames) → Status
     → (source sink : Over Bytes) → Type 0
-OpensId carousel paths = Replies (sections_by_id carousel) (answers_to (asks_paths paths))
+OpensId carousel paths = Replies (sections_by_id carousel) (reply_by answer_after (asks_paths paths))

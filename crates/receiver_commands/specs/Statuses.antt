@@ -1,5 +1,5 @@
 -- The number and the line of a status, and the statuses of faults. The line is what stands on standard error, without its line feed.
-use Rattle.std.specs.Prelude.{ℕ, Bool, true, false, ◌++◌, codes, Option, Some, None, Result, Ok, Err}
+use Rattle.std.specs.Prelude.{ℕ, ◌++◌, codes, Option, Some, None}
 use Rattle.std.specs.Fmt.{decimal}
 use Rattle.folder_store.specs.declared.reading.TreeFault.{TreeFault}
 use Rattle.folder_store.specs.declared.reading.TreeFault.TheVariants as trees
@@ -80,17 +80,6 @@ input_status inputs.NoMemory = status.NoMemory
 abbrev pub output_status : OutputFault → Status
 output_status outputs.Failed = status.WriteFault
 output_status outputs.NoMemory = status.NoMemory
-
--- of answers that were written, each a file or a folder or not, or a fault
-abbrev pub answer_status : Result Bool OutputFault → Status
-answer_status (Ok true) = status.Done
-answer_status (Ok false) = status.NotAll
-answer_status (Err fault) = output_status fault
-
--- of a command that was done, or stopped with a status
-abbrev pub end_status : Result (Unit {0}) Status → Status
-end_status (Ok done) = status.Done
-end_status (Err s) = s
 
 -- of a text that gave no script
 abbrev pub script_status : ScriptFault → Status

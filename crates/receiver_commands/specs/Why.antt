@@ -4,8 +4,7 @@ use Rattle.shell_words.specs.Complaints.{complaint_line}
 use Rattle.shell_words.specs.declared.places.Complaint.{Complaint}
 use Rattle.shell_words.specs.declared.places.Complaint.TheVariants as complaints
 use Rattle.shell_streams.specs.Cuts.{Bytes}
-use Rattle.receiver_commands.specs.Over.{Over, WritesAll, WritesPrefix}
-use Rattle.receiver_commands.specs.Ends.{EndsWriting}
+use Rattle.receiver_commands.specs.Over.{Over, WritesAll, WritesPrefix, EndsWriting}
 use Rattle.receiver_commands.specs.declared.status.Status.{Status}
 use Rattle.receiver_commands.specs.declared.status.Status.TheVariants as status
 
@@ -23,8 +22,3 @@ EndsWhy complaint sink = EndsWriting (SaysAll complaint sink)
 
 pub record SaysWhy (complaint : Complaint) (s : Status) (sink : Over Bytes) : Type 0 where
   pub ends : EndsWhy complaint sink s
-
--- the status where the line was written
-abbrev pub why_status : Complaint → Status
-why_status complaints.Fits = status.NotAll
-why_status _ = status.Done

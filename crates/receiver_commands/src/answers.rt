@@ -1,6 +1,6 @@
-ghost use Rattle.std.specs.Prelude.{◌≡◌, ◌&&◌, ◌++◌, [], IfOk, OnOk};
+ghost use Rattle.std.specs.Prelude.{◌≡◌, ◌&&◌, ◌++◌, IfOk, OnOk};
 ghost use Rattle.std.specs.List.{list_all, flat_map};
-ghost use Rattle.shell_streams.specs.Sending.{Puts};
+ghost use Rattle.shell_streams.specs.Sending.{Puts, IsFlushed};
 ghost use Rattle.shell_words.specs.Texts as texts;
 ghost use Rattle.receiver_commands.specs.Open.{AllAnswers};
 
@@ -65,7 +65,7 @@ pub fn write_answers<A: Answerer, O: Output>(
     ensures puts { (answer : AllAnswers)
         → A.answers answerer.now answer
         → Puts result (O.state out.old) (O.state out.new) (texts.open_text answer paths.now) }
-    ensures empty { OnOk result ((O.state out.new).pending ≡ []) }
+    ensures empty { OnOk result (IsFlushed (O.state out.new)) }
 {
     let mut all = true;
     for path in paths {

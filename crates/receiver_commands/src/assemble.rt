@@ -2,17 +2,18 @@ ghost use Rattle.std.specs.Prelude.{◌≡◌, ◌==◌, ◌&&◌, ◌≤◌, �
 ghost use Rattle.std.specs.Option.{option_map};
 ghost use Rattle.ddb_block.specs.Blocks as ddb;
 ghost use Rattle.shell_streams.specs.Cuts.{Bytes};
-ghost use Rattle.receiver_commands.specs.Over.{over, sink_over};
+ghost use Rattle.receiver_commands.specs.Over.{over, out_over};
 ghost use Rattle.receiver_commands.specs.Input.{block_heard};
-ghost use Rattle.receiver_commands.specs.Gathering.{asked_of, HasBlocks};
-ghost use Rattle.shell_streams.specs.Sending.{Puts, IsInTime};
-ghost use Rattle.receiver_commands.specs.Assemble.{Assembles, IsModule};
+ghost use Rattle.receiver_commands.specs.Gathering.{asked_of};
+ghost use Rattle.receiver_commands.specs.Inner.Gathering.{HasBlocks};
+ghost use Rattle.shell_streams.specs.Sending.{Puts, IsInTime, IsFlushed};
+ghost use Rattle.receiver_commands.specs.Assemble.{Assembles};
+ghost use Rattle.receiver_commands.specs.Inner.Assemble.{IsModule};
 ghost use Rattle.block_assembler.specs.declared.TheConstants.{MOST_MODULE_SIZE};
 
 use crate::status::Status;
 use block_assembler::{Assembler, NewFault};
 use ddb_block::{Parts, parts_of};
-use dsi_dii::BLOCK_SIZE;
 use dsmcc_section::{Table, payload_of};
 use oc_bytes::{NoMemory, Source};
 use shell_streams::{Carrier, Listener, Output, OutputFault, hear_all};
@@ -20,6 +21,9 @@ use std::alloc::Global;
 
 /// The most sections that are taken. This project's own limit.
 pub const MOST_ASSEMBLED: u32 = 65_536;
+
+/// The bytes of each block of the module but its last. This project's own choice: as many as are written.
+pub const ASSEMBLED_BLOCK: u16 = 4_066;
 
 /// The module that is asked for.
 #[derive(Clone, Copy)]
@@ -42,7 +46,7 @@ struct Gatherer {
 }
 
 impl Listener for Gatherer {
-    ghost use Rattle.receiver_commands.specs.Gatherers.{Gathers};
+    ghost use Rattle.receiver_commands.specs.Inner.Gatherers.{Gathers};
 
     ghost heard = { Gathers };
 
@@ -52,8 +56,8 @@ impl Listener for Gatherer {
     }
 }
 
-/// Writes the module that is asked for, out of the sections that stand back to back in the source: of each of its blocks the first that fits
-/// (ISO/IEC 13818-6, 7.3.7.1). All else that they carry is passed over.
+/// Writes the module that is asked for, out of the sections that stand back to back in the source: of each of its blocks, which have
+/// [`ASSEMBLED_BLOCK`] bytes but for the last, the first that fits (ISO/IEC 13818-6, 7.3.7.1). All else that they carry is passed over.
 ///
 /// The whole input is read first. `ReadFault` comes where the source fails, and `InputTooLong` exactly where [`MOST_ASSEMBLED`] sections were
 /// taken and at least a byte more is read; nothing is written then. Nor is it where `Incomplete` comes, exactly where a block is missing: it
@@ -68,14 +72,13 @@ pub fn assemble<S: Source, O: Output>(
     out: &mut O,
 ) -> Status
     requires size { wanted.size ≤ MOST_MODULE_SIZE }
-    requires pending { (O.state out.old).pending ≡ [] }
+    requires pending { IsFlushed (O.state out.old) }
     ensures assembles { Assembles (asked_of wanted) result
-        (over S.left S.faults source.old source.new)
-        (sink_over (O.state out.old) (O.state out.new)) }
+        (over S.left S.faults source.old source.new) (out_over O.state out.old out.new) }
     ensures same { (O.state out.new).name ≡ (O.state out.old).name }
     ensures in_time { IsInTime (O.state out.old) (O.state out.new) }
 {
-    let assembler = match Assembler::new(alloc, wanted.size, BLOCK_SIZE) {
+    let assembler = match Assembler::new(alloc, wanted.size, ASSEMBLED_BLOCK) {
         Ok(assembler) => assembler,
         Err(NewFault::NoMemory) => return Status::NoMemory,
         Err(_) => unreachable!(),
@@ -94,9 +97,8 @@ pub fn assemble<S: Source, O: Output>(
 
 /// Writes the module where no block of it is missing.
 fn write_module<O: Output>(assembler: &Assembler, out: &mut O) -> Status
-    requires { (O.state out.old).pending ≡ [] }
-    ensures writes { IsModule assembler.now.blocks (sink_over (O.state out.old) (O.state out.new))
-        result }
+    requires { IsFlushed (O.state out.old) }
+    ensures writes { IsModule assembler.now.blocks (out_over O.state out.old out.new) result }
     ensures same { (O.state out.new).name ≡ (O.state out.old).name }
     ensures in_time { IsInTime (O.state out.old) (O.state out.new) }
 {
@@ -114,7 +116,7 @@ fn write_module<O: Output>(assembler: &Assembler, out: &mut O) -> Status
 
 fn write_all<O: Output>(bytes: &[u8], out: &mut O) -> Result<(), OutputFault>
     ensures puts { Puts result (O.state out.old) (O.state out.new) bytes.now }
-    ensures empty { OnOk result ((O.state out.new).pending ≡ []) }
+    ensures empty { OnOk result (IsFlushed (O.state out.new)) }
 {
     out.put(bytes)?;
     out.flush()

@@ -1,7 +1,8 @@
-ghost use Rattle.std.specs.Prelude.{◌≡◌, []};
-ghost use Rattle.shell_streams.specs.Sending.{IsInTime};
-ghost use Rattle.receiver_commands.specs.Over.{over, sink_over};
-ghost use Rattle.receiver_commands.specs.Extract.{Extracts, extract_status};
+ghost use Rattle.std.specs.Prelude.{◌≡◌};
+ghost use Rattle.shell_streams.specs.Sending.{IsInTime, IsFlushed};
+ghost use Rattle.receiver_commands.specs.Over.{over, out_over};
+ghost use Rattle.receiver_commands.specs.Extract.{Extracts};
+ghost use Rattle.receiver_commands.specs.Inner.Extract.{extract_status};
 
 use crate::receiver::receive;
 use crate::status::Status;
@@ -31,9 +32,9 @@ pub fn extract<S: Source, O: Output, T: Store>(
     out: &mut O,
     store: &mut T,
 ) -> Status
-    requires { (O.state out.old).pending ≡ [] }
+    requires { IsFlushed (O.state out.old) }
     ensures extracts { Extracts pid folder.now result (over S.left S.faults source.old source.new)
-        (sink_over (O.state out.old) (O.state out.new)) (over T.tree T.faults store.old store.new) }
+        (out_over O.state out.old out.new) (over T.tree T.faults store.old store.new) }
     ensures same { (O.state out.new).name ≡ (O.state out.old).name }
     ensures in_time { IsInTime (O.state out.old) (O.state out.new) }
 {

@@ -1,14 +1,15 @@
-ghost use Rattle.std.specs.Prelude.{◌≡◌, [], IfOk, OnOk};
-ghost use Rattle.std.specs.String.{string_bytes};
+ghost use Rattle.std.specs.Prelude.{◌≡◌, IfOk, OnOk};
+ghost use Rattle.oc_bytes.specs.Outcome.{Spells};
 ghost use Rattle.psi_tables.specs.Finding.{found_in};
 ghost use Rattle.shell_streams.specs.Carriers.{Hears, all_packets};
-ghost use Rattle.shell_streams.specs.Sending.{Puts, IsInTime};
-ghost use Rattle.receiver_commands.specs.Over.{over, sink_over};
+ghost use Rattle.shell_streams.specs.Sending.{Puts, IsInTime, IsFlushed};
+ghost use Rattle.receiver_commands.specs.Over.{over, out_over};
 ghost use Rattle.receiver_commands.specs.Find as finding;
 ghost use Rattle.receiver_commands.specs.Find.{Finds};
 
 use crate::open::status_of;
 use crate::status::Status;
+use carousel_profile::PACKET_LENGTH;
 use oc_bytes::{NoMemory, Source};
 use psi_tables::{Find, Finder};
 use shell_streams::{InputFault, Output, OutputFault, PacketListener, hear_all_packets};
@@ -28,7 +29,7 @@ impl PacketListener for Seeking {
         (now.finder.directory.carousel ≡ start.finder.directory.carousel)
         × StandsFor now.finder packets };
 
-    fn hear(&mut self, packet: &[u8; 188]) -> Result<(), NoMemory> {
+    fn hear(&mut self, packet: &[u8; PACKET_LENGTH]) -> Result<(), NoMemory> {
         self.finder.feed(packet)
     }
 }
@@ -49,9 +50,9 @@ pub fn find<S: Source, O: Output>(
     source: &mut S,
     out: &mut O,
 ) -> Status
-    requires { (O.state out.old).pending ≡ [] }
+    requires { IsFlushed (O.state out.old) }
     ensures finds { Finds carousel result (over S.left S.faults source.old source.new)
-        (sink_over (O.state out.old) (O.state out.new)) }
+        (out_over O.state out.old out.new) }
     ensures same { (O.state out.new).name ≡ (O.state out.old).name }
     ensures in_time { IsInTime (O.state out.old) (O.state out.new) }
 {
@@ -76,7 +77,7 @@ fn place<S: Source>(alloc: Global, carousel: u32, source: &mut S) -> Result<Find
 fn write_found<O: Output>(alloc: Global, found: Find, out: &mut O) -> Result<bool, OutputFault>
     ensures found { IfOk result (λ all. all ≡ finding.is_at found) }
     ensures puts { Puts result (O.state out.old) (O.state out.new) (finding.found_line found) }
-    ensures empty { OnOk result ((O.state out.new).pending ≡ []) }
+    ensures empty { OnOk result (IsFlushed (O.state out.new)) }
 {
     let line = found_line(alloc, found)?;
     out.put(line.as_bytes())?;
@@ -85,7 +86,7 @@ fn write_found<O: Output>(alloc: Global, found: Find, out: &mut O) -> Result<boo
 }
 
 fn found_line(alloc: Global, found: Find) -> Result<String, NoMemory>
-    ensures { IfOk result (λ text. string_bytes text ≡ finding.found_line found) }
+    ensures { Spells result (finding.found_line found) }
 {
     match found {
         Find::NoPat => String::from_str(alloc, "no-pat\n"),

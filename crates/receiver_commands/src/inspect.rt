@@ -1,7 +1,8 @@
-ghost use Rattle.std.specs.Prelude.{◌≡◌, []};
-ghost use Rattle.shell_streams.specs.Sending.{IsInTime};
-ghost use Rattle.receiver_commands.specs.Over.{over, sink_over};
-ghost use Rattle.receiver_commands.specs.Inspect.{Inspects, report_status};
+ghost use Rattle.std.specs.Prelude.{◌≡◌};
+ghost use Rattle.shell_streams.specs.Sending.{IsInTime, IsFlushed};
+ghost use Rattle.receiver_commands.specs.Over.{over, out_over};
+ghost use Rattle.receiver_commands.specs.Inspect.{Inspects};
+ghost use Rattle.receiver_commands.specs.Inner.Inspect.{report_status};
 
 use crate::status::Status;
 use oc_bytes::Source;
@@ -18,9 +19,9 @@ use std::alloc::Global;
 ///
 /// Nothing may be pending in the output when it is called.
 pub fn inspect<S: Source, O: Output>(alloc: Global, pid: u16, source: &mut S, out: &mut O) -> Status
-    requires { (O.state out.old).pending ≡ [] }
+    requires { IsFlushed (O.state out.old) }
     ensures inspects { Inspects pid result (over S.left S.faults source.old source.new)
-        (sink_over (O.state out.old) (O.state out.new)) }
+        (out_over O.state out.old out.new) }
     ensures same { (O.state out.new).name ≡ (O.state out.old).name }
     ensures in_time { IsInTime (O.state out.old) (O.state out.new) }
 {

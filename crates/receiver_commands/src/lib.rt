@@ -25,6 +25,7 @@ pub mod assemble;
 pub mod extract;
 pub mod find;
 pub mod inspect;
+mod limits;
 mod listing;
 pub mod mounts;
 pub mod open;
@@ -35,4 +36,5 @@ mod status;
 pub mod watch;
 pub mod why;
 
+pub use limits::limits_are_numbers;
 pub use status::Status;

@@ -1,8 +1,7 @@
-ghost use Rattle.std.specs.Prelude.{◌≡◌, [], IfOk, OnOk};
+ghost use Rattle.std.specs.Prelude.{◌≡◌, IfOk, OnOk};
 ghost use Rattle.std.specs.List.{flat_map, list_all};
-ghost use Rattle.path_resolver.specs.Resolving.{answer_of};
-ghost use Rattle.path_resolver.specs.Shots.{held_of};
-ghost use Rattle.shell_streams.specs.Sending.{Puts};
+ghost use Rattle.path_resolver.specs.Shots.{answers_of};
+ghost use Rattle.shell_streams.specs.Sending.{Puts, IsFlushed};
 ghost use Rattle.shell_words.specs.Texts.{is_found as found};
 ghost use Rattle.receiver_commands.specs.Listing.{list_line, list_text, all_listed, more_unless};
 
@@ -19,10 +18,10 @@ use std::alloc::Global;
 ///
 /// It says whether each answer is a file or a folder, and no `more` is written. This is the project's own rule.
 pub fn write_list<O: Output>(alloc: Global, shot: &Shot, out: &mut O) -> Result<bool, OutputFault>
-    ensures listed { IfOk result (λ all. all ≡ all_listed (answer_of (held_of shot.now))) }
+    ensures listed { IfOk result (λ all. all ≡ all_listed (answers_of shot.now)) }
     ensures puts { Puts result (O.state out.old) (O.state out.new)
-        (list_text (answer_of (held_of shot.now))) }
-    ensures empty { OnOk result ((O.state out.new).pending ≡ []) }
+        (list_text (answers_of shot.now)) }
+    ensures empty { OnOk result (IsFlushed (O.state out.new)) }
 {
     let listing = listed_paths(alloc, shot)?;
     let found = put_paths(alloc, shot, &listing.paths, out)?;
@@ -39,9 +38,9 @@ fn put_paths<O: Output>(
     out: &mut O,
 ) -> Result<bool, OutputFault>
     ensures found { IfOk result (λ all.
-        all ≡ list_all (λ p. found (answer_of (held_of shot.now) p)) paths.now) }
+        all ≡ list_all (λ p. found (answers_of shot.now p)) paths.now) }
     ensures puts { Puts result (O.state out.old) (O.state out.new)
-        (flat_map (list_line (answer_of (held_of shot.now))) paths.now) }
+        (flat_map (list_line (answers_of shot.now)) paths.now) }
 {
     let mut all = true;
     for path in paths {
@@ -58,9 +57,9 @@ fn put_path<O: Output>(
     path: &Path,
     out: &mut O,
 ) -> Result<bool, OutputFault>
-    ensures found { IfOk result (λ b. b ≡ found (answer_of (held_of shot.now) path.now)) }
+    ensures found { IfOk result (λ b. b ≡ found (answers_of shot.now path.now)) }
     ensures puts { Puts result (O.state out.old) (O.state out.new)
-        (list_line (answer_of (held_of shot.now)) path.now) }
+        (list_line (answers_of shot.now) path.now) }
 {
     let answer = resolve(shot, path)?;
     put_line(alloc, path, &answer, out)?;

@@ -1,19 +1,21 @@
 ghost use Rattle.std.specs.Prelude.{◌≡◌, [], Some, None, IfOk, IfErr, IfSome, OnOk};
 ghost use Rattle.std.specs.List.{flat_map};
-ghost use Rattle.std.specs.String.{string_bytes};
+ghost use Rattle.oc_bytes.specs.Outcome.{Spells, MakesList};
 ghost use Rattle.mount_table.specs.Mounts.{refusal_of, refusal_in, names_of, IsTableOf};
 ghost use Rattle.mount_table.specs.Stands.{StandsFor, mounts_of};
 ghost use Rattle.shell_streams.specs.Carriers.{all_packets};
-ghost use Rattle.shell_streams.specs.Sending.{Puts, IsInTime};
+ghost use Rattle.shell_streams.specs.Sending.{Puts, IsInTime, IsFlushed};
 ghost use Rattle.shell_words.specs.Texts as texts;
-ghost use Rattle.receiver_commands.specs.Over.{over, sink_over};
+ghost use Rattle.receiver_commands.specs.Over.{over, out_over};
 ghost use Rattle.receiver_commands.specs.Open.{asks_paths, reply_by};
 ghost use Rattle.receiver_commands.specs.Replies.{Replies};
-ghost use Rattle.receiver_commands.specs.Mounts.{ServesMounts, mounts_in, mounted_answer, root_line, root_text};
+ghost use Rattle.receiver_commands.specs.Mounts.{ServesMounts, mounts_in, mounted_answer};
+ghost use Rattle.receiver_commands.specs.Inner.Mounts.{root_line, root_text};
 
 use crate::answers::{Answerer, put_entry, put_name, write_answers};
 use crate::open::status_of;
 use crate::status::Status;
+use carousel_profile::PACKET_LENGTH;
 use mount_table::{Mount, Mounted, Mounts, TableFault};
 use oc_bytes::{NoMemory, Source};
 use path_resolver::Answer;
@@ -34,7 +36,7 @@ impl PacketListener for Mounting {
     ghost heard = { λ start now packets.
         (mounts_of now.mounts ≡ mounts_of start.mounts) × StandsFor now.mounts packets };
 
-    fn hear(&mut self, packet: &[u8; 188]) -> Result<(), NoMemory> {
+    fn hear(&mut self, packet: &[u8; PACKET_LENGTH]) -> Result<(), NoMemory> {
         self.mounts.feed(packet)
     }
 }
@@ -81,10 +83,9 @@ pub fn mounts<S: Source, O: Output>(
     source: &mut S,
     out: &mut O,
 ) -> Status
-    requires { (O.state out.old).pending ≡ [] }
+    requires { IsFlushed (O.state out.old) }
     ensures serves { ServesMounts entries.items paths.now result
-        (over S.left S.faults source.old source.new)
-        (sink_over (O.state out.old) (O.state out.new)) }
+        (over S.left S.faults source.old source.new) (out_over O.state out.old out.new) }
     ensures same { (O.state out.new).name ≡ (O.state out.old).name }
     ensures in_time { IsInTime (O.state out.old) (O.state out.new) }
 {
@@ -108,7 +109,7 @@ fn table_of(alloc: Global, entries: Vec<(Name, u16)>) -> Result<Mounts, TableFau
 
 /// The mounts of these names and PIDs, in the same order.
 fn listed(alloc: Global, entries: Vec<(Name, u16)>) -> Result<Vec<Mount>, NoMemory>
-    ensures { IfOk result (λ mounts. mounts.items ≡ mounts_in entries.items) }
+    ensures { MakesList result (mounts_in entries.items) }
 {
     let mut mounts = Vec::with_capacity(alloc, entries.len())?;
     for (name, pid) in entries {
@@ -125,12 +126,11 @@ fn serve<S: Source, O: Output>(
     source: &mut S,
     out: &mut O,
 ) -> Status
-    requires pending { (O.state out.old).pending ≡ [] }
+    requires pending { IsFlushed (O.state out.old) }
     requires stands { StandsFor table [] }
     ensures replies { Replies all_packets
         (reply_by (mounted_answer (mounts_of table)) (asks_paths paths.now)) result
-        (over S.left S.faults source.old source.new)
-        (sink_over (O.state out.old) (O.state out.new)) }
+        (over S.left S.faults source.old source.new) (out_over O.state out.old out.new) }
     ensures same { (O.state out.new).name ≡ (O.state out.old).name }
     ensures in_time { IsInTime (O.state out.old) (O.state out.new) }
 {
@@ -152,7 +152,7 @@ fn put_root<O: Output>(alloc: Global, mounts: &Mounts, out: &mut O) -> Result<()
 
 /// The line of a root of so many names.
 fn root_line(alloc: Global, count: usize) -> Result<String, NoMemory>
-    ensures { IfOk result (λ text. string_bytes text ≡ root_line count) }
+    ensures { Spells result (root_line count) }
 {
     format!(in alloc; "/ folder {count}\n")
 }

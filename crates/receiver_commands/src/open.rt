@@ -1,8 +1,8 @@
-ghost use Rattle.std.specs.Prelude.{◌≡◌, []};
-ghost use Rattle.shell_streams.specs.Sending.{IsInTime};
-ghost use Rattle.receiver_commands.specs.Over.{over, sink_over};
+ghost use Rattle.std.specs.Prelude.{◌≡◌};
+ghost use Rattle.shell_streams.specs.Sending.{IsInTime, IsFlushed};
+ghost use Rattle.receiver_commands.specs.Over.{over, out_over};
 ghost use Rattle.receiver_commands.specs.Open.{Answers, asks_paths, asks_all};
-ghost use Rattle.receiver_commands.specs.Statuses.{answer_status};
+ghost use Rattle.receiver_commands.specs.Inner.Statuses.{answer_status};
 
 use crate::answers::write_answers;
 use crate::listing::write_list;
@@ -29,10 +29,9 @@ pub fn open<S: Source, O: Output>(
     source: &mut S,
     out: &mut O,
 ) -> Status
-    requires { (O.state out.old).pending ≡ [] }
+    requires { IsFlushed (O.state out.old) }
     ensures answers { Answers carrier (asks_paths paths.now) result
-        (over S.left S.faults source.old source.new)
-        (sink_over (O.state out.old) (O.state out.new)) }
+        (over S.left S.faults source.old source.new) (out_over O.state out.old out.new) }
     ensures same { (O.state out.new).name ≡ (O.state out.old).name }
     ensures in_time { IsInTime (O.state out.old) (O.state out.new) }
 {
@@ -55,9 +54,9 @@ pub fn list<S: Source, O: Output>(
     source: &mut S,
     out: &mut O,
 ) -> Status
-    requires { (O.state out.old).pending ≡ [] }
+    requires { IsFlushed (O.state out.old) }
     ensures answers { Answers carrier asks_all result (over S.left S.faults source.old source.new)
-        (sink_over (O.state out.old) (O.state out.new)) }
+        (out_over O.state out.old out.new) }
     ensures same { (O.state out.new).name ≡ (O.state out.old).name }
     ensures in_time { IsInTime (O.state out.old) (O.state out.new) }
 {

@@ -5,15 +5,16 @@ ghost use Rattle.section_stream.specs.Cuts.{Bytes};
 ghost use Rattle.tuner_core.specs.Heard.{as_heard};
 ghost use Rattle.tuner_core.specs.LookBack.{held_after};
 ghost use Rattle.shell_streams.specs.Carriers.{Hears};
-ghost use Rattle.shell_streams.specs.Sending.{IsInTime};
-ghost use Rattle.receiver_commands.specs.Over.{over, sink_over};
+ghost use Rattle.shell_streams.specs.Sending.{IsInTime, IsFlushed};
+ghost use Rattle.receiver_commands.specs.Over.{over, out_over};
 ghost use Rattle.receiver_commands.specs.OpenId.{OpensId, sections_by_id};
-ghost use Rattle.receiver_commands.specs.Seeking.{HasHeard};
+ghost use Rattle.receiver_commands.specs.Inner.Seeking.{HasHeard};
 
 use crate::answers::write_answers;
 use crate::open::status_of;
 use crate::receiver::Receiver;
 use crate::status::Status;
+use carousel_profile::PACKET_LENGTH;
 use oc_bytes::{NoMemory, Source};
 use path_resolver::Shot;
 use path_tree::Path;
@@ -35,11 +36,11 @@ struct Seeker {
 }
 
 impl PacketListener for Seeker {
-    ghost use Rattle.receiver_commands.specs.Seeking.{HasHeard};
+    ghost use Rattle.receiver_commands.specs.Inner.Seeking.{HasHeard};
 
     ghost heard = { λ start now packets. HasHeard start.finder.directory.carousel now packets };
 
-    fn hear(&mut self, packet: &[u8; 188]) -> Result<(), NoMemory> {
+    fn hear(&mut self, packet: &[u8; PACKET_LENGTH]) -> Result<(), NoMemory> {
         match &mut self.stream {
             Some(stream) => {
                 let sections = stream.feed(packet)?;
@@ -52,7 +53,7 @@ impl PacketListener for Seeker {
 
 impl Seeker {
     /// Takes a packet before the carousel is found.
-    fn seek(&mut self, packet: &[u8; 188]) -> Result<(), NoMemory>
+    fn seek(&mut self, packet: &[u8; PACKET_LENGTH]) -> Result<(), NoMemory>
         requires { self.old.stream ≡ None }
         ensures { OnOk result ((packets : List Bytes)
             → HasHeard self.old.finder.directory.carousel self.old packets
@@ -84,9 +85,9 @@ pub fn open_id<S: Source, O: Output>(
     source: &mut S,
     out: &mut O,
 ) -> Status
-    requires { (O.state out.old).pending ≡ [] }
+    requires { IsFlushed (O.state out.old) }
     ensures opens { OpensId carousel paths.now result (over S.left S.faults source.old source.new)
-        (sink_over (O.state out.old) (O.state out.new)) }
+        (out_over O.state out.old out.new) }
     ensures same { (O.state out.new).name ≡ (O.state out.old).name }
     ensures in_time { IsInTime (O.state out.old) (O.state out.new) }
 {

@@ -1,11 +1,12 @@
 ghost use Rattle.std.specs.Prelude.{◌≡◌, false, [], map, OnOk};
 ghost use Rattle.section_stream.specs.Kept.{view_bytes};
 ghost use Rattle.shell_streams.specs.Packets.{is_ready};
-ghost use Rattle.shell_streams.specs.Sending.{Puts, IsInTime};
-ghost use Rattle.receiver_commands.specs.Over.{over, sink_over};
+ghost use Rattle.shell_streams.specs.Sending.{Puts, IsInTime, IsFlushed};
+ghost use Rattle.receiver_commands.specs.Over.{over, out_over};
 ghost use Rattle.receiver_commands.specs.Accepted as sections;
+ghost use Rattle.receiver_commands.specs.Inner.Accepted as inner;
 ghost use Rattle.receiver_commands.specs.Record.{Records};
-ghost use Rattle.receiver_commands.specs.Statuses.{end_status};
+ghost use Rattle.receiver_commands.specs.Inner.Statuses.{end_status};
 
 use crate::status::Status;
 use dsmcc_section::payload_of;
@@ -28,9 +29,9 @@ use std::alloc::Global;
 ///
 /// Nothing may be pending in the output when it is called.
 pub fn record<S: Source, O: Output>(alloc: Global, pid: u16, source: &mut S, out: &mut O) -> Status
-    requires { (O.state out.old).pending ≡ [] }
+    requires { IsFlushed (O.state out.old) }
     ensures records { Records pid result (over S.left S.faults source.old source.new)
-        (sink_over (O.state out.old) (O.state out.new)) }
+        (out_over O.state out.old out.new) }
     ensures same { (O.state out.new).name ≡ (O.state out.old).name }
     ensures in_time { IsInTime (O.state out.old) (O.state out.new) }
 {
@@ -47,9 +48,9 @@ fn record_all<S: Source, O: Output>(
     source: &mut S,
     out: &mut O,
 ) -> Result<(), Status>
-    requires { (O.state out.old).pending ≡ [] }
+    requires { IsFlushed (O.state out.old) }
     ensures records { Records pid (end_status result) (over S.left S.faults source.old source.new)
-        (sink_over (O.state out.old) (O.state out.new)) }
+        (out_over O.state out.old out.new) }
     ensures same { (O.state out.new).name ≡ (O.state out.old).name }
     ensures in_time { IsInTime (O.state out.old) (O.state out.new) }
 {
@@ -66,7 +67,7 @@ fn record_all<S: Source, O: Output>(
 /// Writes what is pending, unless the next packet is held already.
 fn write_before_reading<O: Output>(reader: &PacketReader, out: &mut O) -> Result<(), OutputFault>
     ensures puts { Puts result (O.state out.old) (O.state out.new) [] }
-    ensures due { OnOk result (is_ready reader.now ≡ false → (O.state out.new).pending ≡ []) }
+    ensures due { OnOk result (is_ready reader.now ≡ false → IsFlushed (O.state out.new)) }
 {
     if reader.is_ready() {
         Ok(())
@@ -89,7 +90,7 @@ fn put_accepted<O: Output>(candidates: &[Vec<u8>], out: &mut O) -> Result<(), Ou
 /// Puts a candidate after what is pending, where it is a section.
 fn put_one<O: Output>(candidate: &[u8], out: &mut O) -> Result<(), OutputFault>
     ensures { Puts result (O.state out.old) (O.state out.new)
-        (sections.accepted_one candidate.now) }
+        (inner.accepted_one candidate.now) }
 {
     if is_accepted(candidate) {
         out.put(candidate)

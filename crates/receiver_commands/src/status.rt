@@ -1,6 +1,7 @@
 ghost use Rattle.std.specs.Prelude.{◌≡◌, IfOk};
 ghost use Rattle.std.specs.String.{string_bytes};
 ghost use Rattle.std.specs.Option.{option_map};
+ghost use Rattle.oc_bytes.specs.Outcome.{Spells};
 ghost use Rattle.receiver_commands.specs.Statuses.{code_of, line_of, script_text as text_of_script, tree_text as text_of_tree};
 
 use folder_store::{ReadTree, TreeFault};
@@ -102,7 +103,7 @@ impl Status {
 
 /// Why a text is no script.
 fn script_text(alloc: Global, number: u32, cause: LineCause) -> Result<String, NoMemory>
-    ensures { IfOk result (λ text. string_bytes text ≡ text_of_script number cause) }
+    ensures { Spells result (text_of_script number cause) }
 {
     let cause = cause.to_string(alloc)?;
     let mut text = format!(in alloc; "script line {number}: ")?;
@@ -112,7 +113,7 @@ fn script_text(alloc: Global, number: u32, cause: LineCause) -> Result<String, N
 
 /// Why a tree is refused.
 fn tree_text(alloc: Global, fault: &TreeFault) -> Result<String, NoMemory>
-    ensures { IfOk result (λ text. string_bytes text ≡ text_of_tree fault.now) }
+    ensures { Spells result (text_of_tree fault.now) }
 {
     match fault {
         TreeFault::TooDeep => String::from_str(alloc, "too-deep"),

@@ -1,16 +1,15 @@
 ghost use Rattle.std.specs.Prelude.{◌≡◌, ◌≤◌, ◌<◌, ◌++◌, ◌∷◌, [], List, length, map, IfOk, OnOk};
 ghost use Rattle.std.specs.List.{All, flat_map, list_any};
-ghost use Rattle.std.specs.String.{string_bytes};
+ghost use Rattle.oc_bytes.specs.Outcome.{Spells, MakesList};
 ghost use Rattle.path_tree.specs.Paths.{PathNames, same_path};
-ghost use Rattle.path_resolver.specs.Resolving.{answer_of};
-ghost use Rattle.path_resolver.specs.Shots.{held_of};
+ghost use Rattle.path_resolver.specs.Shots.{answers_of};
 ghost use Rattle.section_stream.specs.Cuts.{Bytes};
 ghost use Rattle.section_stream.specs.Kept.{view_bytes};
 ghost use Rattle.watch_desk.specs.Prefixes.{prefixes_of};
-ghost use Rattle.shell_streams.specs.Sending.{Puts, IsInTime};
-ghost use Rattle.receiver_commands.specs.Over.{over, sink_over};
-ghost use Rattle.receiver_commands.specs.Firsts.{with_new};
-ghost use Rattle.receiver_commands.specs.Statuses.{end_status};
+ghost use Rattle.shell_streams.specs.Sending.{Puts, IsInTime, IsFlushed};
+ghost use Rattle.receiver_commands.specs.Over.{over, out_over};
+ghost use Rattle.receiver_commands.specs.Inner.Firsts.{with_new};
+ghost use Rattle.receiver_commands.specs.Inner.Statuses.{end_status};
 ghost use Rattle.receiver_commands.specs.Watch as watching;
 ghost use Rattle.receiver_commands.specs.Watch.{Watches, watched_paths, first_watchers, notice_line};
 ghost use Rattle.watch_desk.specs.declared.TheConstants.{MOST_WATCHED};
@@ -53,10 +52,9 @@ pub fn watch<S: Source, O: Output>(
     out: &mut O,
 ) -> Status
     requires few { length paths.now ≤ MOST_WATCHED }
-    requires pending { (O.state out.old).pending ≡ [] }
+    requires pending { IsFlushed (O.state out.old) }
     ensures watches { Watches pid (prefixes_of filters.items) paths.now result
-        (over S.left S.faults source.old source.new)
-        (sink_over (O.state out.old) (O.state out.new)) }
+        (over S.left S.faults source.old source.new) (out_over O.state out.old out.new) }
     ensures same { (O.state out.new).name ≡ (O.state out.old).name }
     ensures in_time { IsInTime (O.state out.old) (O.state out.new) }
 {
@@ -76,10 +74,9 @@ fn watch_all<S: Source, O: Output>(
     out: &mut O,
 ) -> Result<(), Status>
     requires few { length paths.now ≤ MOST_WATCHED }
-    requires pending { (O.state out.old).pending ≡ [] }
+    requires pending { IsFlushed (O.state out.old) }
     ensures watches { Watches pid (prefixes_of filters.items) paths.now (end_status result)
-        (over S.left S.faults source.old source.new)
-        (sink_over (O.state out.old) (O.state out.new)) }
+        (over S.left S.faults source.old source.new) (out_over O.state out.old out.new) }
     ensures same { (O.state out.new).name ≡ (O.state out.old).name }
     ensures in_time { IsInTime (O.state out.old) (O.state out.new) }
 {
@@ -103,7 +100,7 @@ struct Watcher {
 }
 
 impl Watcher {
-    ghost use Rattle.receiver_commands.specs.Watching.{StandsFor, lines_after, lines_behind};
+    ghost use Rattle.receiver_commands.specs.Inner.Watching.{StandsFor, lines_after, lines_behind};
 
     /// One that has heard nothing, of the paths, each at its first place only, and of the first filters.
     fn new(alloc: Global, paths: &[Path], mut filters: Vec<Filter>) -> Result<Watcher, NoMemory>
@@ -131,7 +128,7 @@ impl Watcher {
         candidates: &[Vec<u8>],
         out: &mut O,
     ) -> Result<(), OutputFault>
-        requires { (O.state out.old).pending ≡ [] }
+        requires { IsFlushed (O.state out.old) }
         ensures puts { (paths prefixes : List PathNames) (before : List Bytes)
             → StandsFor self.old paths prefixes before
             → Puts result (O.state out.old) (O.state out.new)
@@ -139,7 +136,7 @@ impl Watcher {
         ensures stands { OnOk result ((paths prefixes : List PathNames) (before : List Bytes)
             → StandsFor self.old paths prefixes before
             → StandsFor self.new paths prefixes (before ++ map view_bytes candidates.now)) }
-        ensures empty { OnOk result ((O.state out.new).pending ≡ []) }
+        ensures empty { OnOk result (IsFlushed (O.state out.new)) }
     {
         for candidate in candidates {
             self.hear(candidate, out)?;
@@ -149,7 +146,7 @@ impl Watcher {
 
     /// Hears one candidate, and writes what it changes. Nothing is pending in the output before and after.
     fn hear<O: Output>(&mut self, candidate: &[u8], out: &mut O) -> Result<(), OutputFault>
-        requires { (O.state out.old).pending ≡ [] }
+        requires { IsFlushed (O.state out.old) }
         ensures puts { (paths prefixes : List PathNames) (before : List Bytes)
             → StandsFor self.old paths prefixes before
             → Puts result (O.state out.old) (O.state out.new)
@@ -157,7 +154,7 @@ impl Watcher {
         ensures stands { OnOk result ((paths prefixes : List PathNames) (before : List Bytes)
             → StandsFor self.old paths prefixes before
             → StandsFor self.new paths prefixes (before ++ candidate.now ∷ [])) }
-        ensures empty { OnOk result ((O.state out.new).pending ≡ []) }
+        ensures empty { OnOk result (IsFlushed (O.state out.new)) }
     {
         shots_are_needed_at_changes();
         let fed = self.tuner.feed(candidate)?;
@@ -191,8 +188,7 @@ fn put_notices<O: Output>(
 ) -> Result<(), OutputFault>
     requires { All (λ n. n.path < length paths.now) notices.now }
     ensures { Puts result (O.state out.old) (O.state out.new)
-        (flat_map (notice_line paths.now shot.now.mark (answer_of (held_of shot.now)))
-        notices.now) }
+        (flat_map (notice_line paths.now shot.now.mark (answers_of shot.now)) notices.now) }
 {
     for notice in notices {
         put_notice(alloc, paths, *notice, shot, out)?;
@@ -210,7 +206,7 @@ fn put_notice<O: Output>(
 ) -> Result<(), OutputFault>
     requires { notice.path < length paths.now }
     ensures { Puts result (O.state out.old) (O.state out.new)
-        (notice_line paths.now shot.now.mark (answer_of (held_of shot.now)) notice) }
+        (notice_line paths.now shot.now.mark (answers_of shot.now) notice) }
 {
     let place = notice.path as usize;
     let path = &paths[place];
@@ -222,14 +218,14 @@ fn put_notice<O: Output>(
 
 /// A watcher and a mark, with a space after each.
 fn front_of_line(alloc: Global, watcher: u32, mark: u64) -> Result<String, NoMemory>
-    ensures { IfOk result (λ text. string_bytes text ≡ watching.front_of_line watcher mark) }
+    ensures { Spells result (watching.front_of_line watcher mark) }
 {
     format!(in alloc; "{watcher} {mark} ")
 }
 
 /// The paths, each at its first place only.
 fn each_once(alloc: Global, paths: &[Path]) -> Result<Vec<Path>, NoMemory>
-    ensures { IfOk result (λ once. once.items ≡ watched_paths paths.now) }
+    ensures { MakesList result (watched_paths paths.now) }
 {
     let mut once = Vec::new(alloc);
     for (i, path) in paths.iter().enumerate() {

@@ -1,8 +1,9 @@
-ghost use Rattle.std.specs.Prelude.{◌≡◌, [], OnOk};
-ghost use Rattle.shell_streams.specs.Sending.{IsInTime, Puts};
+ghost use Rattle.std.specs.Prelude.{◌≡◌, OnOk};
+ghost use Rattle.shell_streams.specs.Sending.{IsInTime, Puts, IsFlushed};
 ghost use Rattle.shell_words.specs.Complaints.{complaint_line};
-ghost use Rattle.receiver_commands.specs.Over.{sink_over};
-ghost use Rattle.receiver_commands.specs.Why.{SaysWhy, why_status};
+ghost use Rattle.receiver_commands.specs.Over.{out_over};
+ghost use Rattle.receiver_commands.specs.Why.{SaysWhy};
+ghost use Rattle.receiver_commands.specs.Inner.Why.{why_status};
 
 use crate::status::Status;
 use shell_streams::{Output, OutputFault};
@@ -17,8 +18,8 @@ use std::alloc::Global;
 ///
 /// Nothing may be pending in the output when it is called.
 pub fn why<O: Output>(alloc: Global, complaint: Complaint, out: &mut O) -> Status
-    requires { (O.state out.old).pending ≡ [] }
-    ensures says { SaysWhy complaint result (sink_over (O.state out.old) (O.state out.new)) }
+    requires { IsFlushed (O.state out.old) }
+    ensures says { SaysWhy complaint result (out_over O.state out.old out.new) }
     ensures same { (O.state out.new).name ≡ (O.state out.old).name }
     ensures in_time { IsInTime (O.state out.old) (O.state out.new) }
 {
@@ -45,7 +46,7 @@ fn write_complaint<O: Output>(
     out: &mut O,
 ) -> Result<(), OutputFault>
     ensures puts { Puts result (O.state out.old) (O.state out.new) (complaint_line complaint) }
-    ensures empty { OnOk result ((O.state out.new).pending ≡ []) }
+    ensures empty { OnOk result (IsFlushed (O.state out.new)) }
 {
     let line = complaint_text(alloc, complaint)?;
     out.put(line.as_bytes())?;

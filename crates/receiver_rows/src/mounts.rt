@@ -1,6 +1,7 @@
 //! Several carousels under names in one tree.
 
 use crate::resolver::{answer_text, path_at};
+use carousel_profile::PACKET_LENGTH;
 use mount_table::{Mount, Mounted, Mounts};
 use path_tree::{Name, Path, print_name};
 use std::alloc::Global;
@@ -104,12 +105,12 @@ fn put_mount(row: &Row<'_>, place: usize, mounts: &mut Vec<Mount>) {
 }
 
 /// The packet that the word at a place says.
-fn packet_at(row: &Row<'_>, place: usize) -> [u8; 188] {
-    match <[u8; 188]>::try_from(row.octets(place).as_slice()) {
+fn packet_at(row: &Row<'_>, place: usize) -> [u8; PACKET_LENGTH] {
+    match <[u8; PACKET_LENGTH]>::try_from(row.octets(place).as_slice()) {
         Ok(packet) => packet,
         Err(_) => {
             row.fail(RowFault::BadRow);
-            [0; 188]
+            [0; PACKET_LENGTH]
         }
     }
 }

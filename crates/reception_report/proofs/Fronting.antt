@@ -4,7 +4,7 @@ use Rattle.std.specs.List.{concat}
 use Rattle.std.proofs.lemmas.List.{take_all, take-append-le}
 use Rattle.std.proofs.lemmas.List.Folds.{concat-append}
 use Rattle.path_tree.specs.Paths.{Bytes}
-use Rattle.reception_report.specs.Sync.{IsFront}
+use Rattle.reception_report.specs.Inner.Sync.{IsFront}
 use Rattle.reception_report.specs.declared.front.Front.{Front}
 
 one : (p : Bytes) → concat (p ∷ []) ≡ p

@@ -6,7 +6,8 @@ use Rattle.std.proofs.lemmas.Bool.Decides.{nat_tests}
 use Rattle.std.proofs.lemmas.List.FromFn.{length-map-range_with_len}
 use Rattle.module_cache.specs.Contents.{has_block}
 use Rattle.ddb_block.specs.Blocks.{block_count_of}
-use Rattle.reception_report.specs.Missing.{runs_from, IsBegun, is_in, AreApart, RunsAreOfTheMissing}
+use Rattle.reception_report.specs.Missing.{runs_from, is_in, AreApart, RunsAreOfTheMissing}
+use Rattle.reception_report.specs.Inner.Missing.{IsBegun}
 
 -- ---- tests of numbers
 

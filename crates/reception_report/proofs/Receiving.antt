@@ -8,9 +8,11 @@ use Rattle.section_stream.specs.Cuts.{candidates}
 use Rattle.section_stream.specs.Counting.{CountsAreNumbers, counts_over}
 use Rattle.section_stream.specs.Rules.{StandsFor}
 use Rattle.section_stream.specs.declared.counts.Counts.{Counts}
-use Rattle.reception_report.specs.Hearing.{Follows, HasHeard, IsReception}
+use Rattle.reception_report.specs.Hearing.{Follows, IsReception}
+use Rattle.reception_report.specs.Inner.Hearing.{HasHeard}
 use Rattle.reception_report.specs.Report.{counts_told, tail_of, lacks_sync, sync_told}
-use Rattle.reception_report.specs.Sync.{IsFront, front_of, sync_of}
+use Rattle.reception_report.specs.Sync.{front_of, sync_of}
+use Rattle.reception_report.specs.Inner.Sync.{IsFront}
 use Rattle.reception_report.specs.declared.hearing.Ear.{Ear}
 use Rattle.reception_report.specs.declared.sync.SyncPlace.{SyncPlace}
 

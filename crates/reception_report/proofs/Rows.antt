@@ -10,7 +10,8 @@ use Rattle.shell_words.specs.Texts.{line}
 use Rattle.path_tree.specs.Paths.{Bytes}
 use Rattle.module_cache.specs.Held.{TunedState}
 use Rattle.module_cache.specs.declared.stored.Line.{Line}
-use Rattle.reception_report.specs.Telling.{lines_below, lines_of, module_line, module_if, modules_of, dii_line, diis_text}
+use Rattle.reception_report.specs.Telling.{lines_below, lines_of, module_line, dii_line, diis_text}
+use Rattle.reception_report.specs.Inner.Telling.{module_if, modules_of}
 
 -- none is of an id below 0
 pub below_none : (xs : List Line) → flat_map module_line (lines_below 0 xs) ≡ []

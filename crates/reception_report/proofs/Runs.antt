@@ -4,7 +4,8 @@ use Rattle.std.specs.List.{count_by, range_with_len}
 use Rattle.std.proofs.lemmas.Grind.{flat_map-append}
 use Rattle.std.proofs.lemmas.List.Sums.{sum_by-cons}
 use Rattle.path_tree.specs.Paths.{Bytes}
-use Rattle.reception_report.specs.Missing.{begun_after, ended_by, ended_text, runs_from, runs_text, run_text, IsBegun}
+use Rattle.reception_report.specs.Missing.{begun_after, ended_by, runs_from, runs_text, run_text}
+use Rattle.reception_report.specs.Inner.Missing.{ended_text, IsBegun}
 
 -- ---- numbers from one on up to a last one
 

@@ -2,12 +2,9 @@
 use Rattle.std.specs.Prelude.{◌≡◌, ◌≤◌, ℕ, List}
 use Rattle.path_tree.specs.Paths.{Bytes}
 use Rattle.section_stream.specs.Cuts.{candidates}
-use Rattle.section_stream.specs.Rules as demux
 use Rattle.tuner_core.specs.Stands as tuner
 use Rattle.reception_report.specs.Outcomes.{CountsAre}
 use Rattle.reception_report.specs.Report.{counts_told, sync_told}
-use Rattle.reception_report.specs.Sync.{IsFront}
-use Rattle.reception_report.specs.declared.hearing.Ear.{Ear}
 use Rattle.reception_report.specs.declared.following.Follower.{Follower}
 use Rattle.reception_report.specs.declared.reception.Reception.{Reception}
 
@@ -15,13 +12,6 @@ use Rattle.reception_report.specs.declared.reception.Reception.{Reception}
 pub record Follows (f : Follower) (sections : List Bytes) : Type 0 where
   pub tuner_stands : tuner.StandsFor f.tuner sections
   pub counts_are : CountsAre f.tally sections
-
--- these packets were heard, and no other
-pub record HasHeard (pid : ℕ) (ear : Ear) (packets : List Bytes) : Type 0 where
-  pub pid_is : ear.demux.pid ≡ pid
-  pub demux_stands : demux.StandsFor ear.demux packets
-  pub follows : Follows ear.follower (candidates pid packets)
-  pub front_is : IsFront ear.front packets
 
 -- the reception of these packets
 pub record IsReception (pid : ℕ) (r : Reception) (packets : List Bytes) : Type 0 where

@@ -5,3 +5,4 @@ pub mod Sync
 pub mod Listing
 pub mod Report
 pub mod Hearing
+pub mod Inner

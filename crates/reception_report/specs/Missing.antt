@@ -1,5 +1,5 @@
 -- The blocks of a module that are missing, as runs of numbers.
-use Rattle.std.specs.Prelude.{◌≡◌, ℕ, ◌+◌, ◌-◌, ◌<◌, ◌≤◌, Bool, true, false, not, ◌&&◌, ◌||◌, nat_le, ◌==◌, List, [], ◌∷◌, ◌++◌, map, Option, Some, None, IfSome, if◌then◌else◌}
+use Rattle.std.specs.Prelude.{◌≡◌, ℕ, ◌+◌, ◌-◌, ◌<◌, ◌≤◌, Bool, true, false, not, ◌&&◌, ◌||◌, nat_le, ◌==◌, List, [], ◌∷◌, ◌++◌, map, Option, Some, None, if◌then◌else◌}
 use Rattle.std.specs.Fmt.{decimal}
 use Rattle.std.specs.List.{count_by, flat_map, range_with_len}
 use Rattle.path_tree.specs.Paths.{Bytes}
@@ -23,10 +23,6 @@ abbrev pub ended_by : Option ℕ → ℕ → (there : Bool) → List Run
 ended_by (Some first) b true = (first, b - 1) ∷ []
 ended_by None b there = []
 ended_by (Some first) b false = []
-
--- a run has begun further in front
-abbrev pub IsBegun : Option ℕ → ℕ → Type 0
-IsBegun begun b = IfSome begun (λ first. first < b)
 
 -- ---- all blocks
 
@@ -67,9 +63,6 @@ run_text run = if run.0 == run.1 then decimal run.0 else decimal run.0 ++ 45 ∷
 -- each run after a space
 abbrev pub runs_text : List Run → Bytes
 runs_text runs = flat_map (λ run. 32 ∷ run_text run) runs
-
-abbrev pub ended_text : Option ℕ → ℕ → Bool → Bytes
-ended_text begun b there = runs_text (ended_by begun b there)
 
 -- how many blocks are there
 abbrev pub count_there : StoredState → ℕ

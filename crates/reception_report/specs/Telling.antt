@@ -1,5 +1,5 @@
 -- The lines of a report on a reception: this project's own texts. Lines end with a line feed, and fields are separated by one space.
-use Rattle.std.specs.Prelude.{ℕ, zero, suc, List, [], ◌∷◌, ◌++◌, length, Option, Some, None, ◌==◌, codes, if◌then◌else◌}
+use Rattle.std.specs.Prelude.{ℕ, zero, suc, List, [], ◌∷◌, ◌++◌, length, Option, Some, None, ◌==◌, codes}
 use Rattle.std.specs.Fmt.{decimal}
 use Rattle.std.specs.List.{filter, flat_map, fold}
 use Rattle.hex.specs.Hex.{encode_lower}
@@ -13,7 +13,7 @@ use Rattle.module_cache.specs.Held.{TunedState}
 use Rattle.module_cache.specs.Slots as slots
 use Rattle.module_cache.specs.Slots.{SlotState, slot_of}
 use Rattle.module_cache.specs.declared.stored.Line.{Line}
-use Rattle.path_resolver.specs.Resolving.{Held, Root, answer_of}
+use Rattle.path_resolver.specs.Resolving.{Held, Target, answer_of}
 use Rattle.path_resolver.specs.Places.{home_of}
 use Rattle.section_stream.specs.declared.counts.Counts.{Counts}
 use Rattle.shell_words.specs.Texts.{line, answer_line}
@@ -48,8 +48,8 @@ candidates_line candidates = line (codes "candidates " ++ decimal (cap_at_u64 (l
 abbrev pub located : Location → Bytes
 located l = line (numbers_text ((codes "gateway carousel", l.carousel) ∷ (codes " module", l.module) ∷ []) ++ codes " key " ++ encode_lower l.key)
 
-abbrev pub gateway_line : Option Root → Bytes
-gateway_line (Some g) = located g.location
+abbrev pub gateway_line : Option Target → Bytes
+gateway_line (Some g) = located g.0
 gateway_line None = line (codes "gateway none")
 
 abbrev pub label_line : Option ℕ → ℕ → Bytes
@@ -80,14 +80,6 @@ lines_below (suc id) xs = lines_below id xs ++ filter (λ x. x.line.id == id) xs
 
 abbrev pub lines_of : List TunedState → List Line
 lines_of ts = flat_map (λ t. t.lines) ts
-
--- the line of a module of this id
-abbrev pub module_if : ℕ → Line → Bytes
-module_if id x = if x.line.id == id then module_line x else []
-
--- those of a DII's modules of this id
-abbrev pub modules_of : ℕ → TunedState → Bytes
-modules_of id t = flat_map module_line (filter (λ x. x.line.id == id) t.lines)
 
 -- all modules that are listed, by rising id; an id has 16 bits
 abbrev pub modules_text : List TunedState → Bytes

@@ -2,8 +2,9 @@
 
 ghost use Rattle.std.specs.Prelude.{◌≡◌, ◌++◌, ◌∷◌, [], List, IfOk, OnOk};
 ghost use Rattle.path_tree.specs.Paths.{Bytes};
-ghost use Rattle.reception_report.specs.Sync.{IsFront};
+ghost use Rattle.reception_report.specs.Inner.Sync.{IsFront};
 
+use carousel_profile::PACKET_LENGTH;
 use oc_bytes::NoMemory;
 use std::alloc::Global;
 
@@ -24,13 +25,13 @@ impl Front {
         ensures { IfOk result (λ front. IsFront front []) }
     {
         Ok(Front {
-            bytes: Vec::with_capacity(alloc, MOST_PACKETS * 188)?,
+            bytes: Vec::with_capacity(alloc, MOST_PACKETS * PACKET_LENGTH)?,
             packets: 0,
         })
     }
 
     /// Takes the next packet.
-    pub(crate) fn take(&mut self, packet: &[u8; 188]) -> Result<(), NoMemory>
+    pub(crate) fn take(&mut self, packet: &[u8; PACKET_LENGTH]) -> Result<(), NoMemory>
         ensures { OnOk result ((packets : List Bytes)
             → IsFront self.old packets
             → IsFront self.new (packets ++ packet.now ∷ [])) }

@@ -1,10 +1,11 @@
 //! Who hears the packets of an input.
 
 ghost use Rattle.std.specs.Prelude.{[], IfOk};
-ghost use Rattle.reception_report.specs.Hearing.{HasHeard};
+ghost use Rattle.reception_report.specs.Inner.Hearing.{HasHeard};
 
 use crate::following::Follower;
 use crate::front::Front;
+use carousel_profile::PACKET_LENGTH;
 use oc_bytes::NoMemory;
 use section_stream::PacketDemux;
 use shell_streams::{PacketListener, hear_each};
@@ -34,11 +35,11 @@ impl Ear {
 }
 
 impl PacketListener for Ear {
-    ghost use Rattle.reception_report.specs.Hearing.{HasHeard};
+    ghost use Rattle.reception_report.specs.Inner.Hearing.{HasHeard};
 
     ghost heard = { λ start now packets. HasHeard start.demux.pid now packets };
 
-    fn hear(&mut self, packet: &[u8; 188]) -> Result<(), NoMemory> {
+    fn hear(&mut self, packet: &[u8; PACKET_LENGTH]) -> Result<(), NoMemory> {
         let sections = self.demux.feed(packet)?;
         hear_each(&sections, &mut self.follower)?;
         self.front.take(packet)?;

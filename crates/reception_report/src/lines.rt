@@ -5,7 +5,7 @@ ghost use Rattle.std.specs.Fmt.{decimal};
 ghost use Rattle.std.specs.List.{flat_map, fold};
 ghost use Rattle.std.specs.String.{string_bytes};
 ghost use Rattle.hex.specs.Hex.{encode_lower};
-ghost use Rattle.oc_bytes.specs.Outcome.{cap_at_u64};
+ghost use Rattle.oc_bytes.specs.Outcome.{cap_at_u64, Spells};
 ghost use Rattle.path_tree.specs.Paths.{Bytes};
 ghost use Rattle.path_resolver.specs.Shots.{held_of, view_gateway};
 ghost use Rattle.shell_words.specs.Texts.{line};
@@ -25,7 +25,7 @@ use std::alloc::Global;
 
 /// The line of the fifteen counts.
 pub(crate) fn counts_line(alloc: Global, counts: &Counts) -> Result<String, NoMemory>
-    ensures { IfOk result (λ text. string_bytes text ≡ telling.counts_line counts.now) }
+    ensures { Spells result (telling.counts_line counts.now) }
 {
     numbers_line(
         alloc,
@@ -147,8 +147,7 @@ fn push_count(
 
 /// The line of the gateway.
 pub(crate) fn gateway_line(alloc: Global, gateway: &Option<Gateway>) -> Result<String, NoMemory>
-    ensures { IfOk result (λ text.
-        string_bytes text ≡ telling.gateway_line (option_map view_gateway gateway.now)) }
+    ensures { Spells result (telling.gateway_line (option_map view_gateway gateway.now)) }
 {
     match gateway {
         None => String::from_str(alloc, "gateway none\n"),
@@ -158,7 +157,7 @@ pub(crate) fn gateway_line(alloc: Global, gateway: &Option<Gateway>) -> Result<S
 
 /// The line of the gateway at this location.
 fn located(alloc: Global, location: &Location) -> Result<String, NoMemory>
-    ensures { IfOk result (λ text. string_bytes text ≡ telling.located location.now) }
+    ensures { Spells result (telling.located location.now) }
 {
     let key = key_text(alloc, location.key.bytes())?;
     numbers_line(
@@ -172,7 +171,7 @@ fn located(alloc: Global, location: &Location) -> Result<String, NoMemory>
 }
 
 fn key_text(alloc: Global, key: &[u8]) -> Result<String, NoMemory>
-    ensures { IfOk result (λ text. string_bytes text ≡ codes " key " ++ encode_lower key.now) }
+    ensures { Spells result (codes " key " ++ encode_lower key.now) }
 {
     let key = hex::encode(alloc, key)?;
     format!(in alloc; " key {key}")
@@ -180,7 +179,7 @@ fn key_text(alloc: Global, key: &[u8]) -> Result<String, NoMemory>
 
 /// The line of the label and the epoch.
 pub(crate) fn label_line(alloc: Global, label: Option<u64>, epoch: u64) -> Result<String, NoMemory>
-    ensures { IfOk result (λ text. string_bytes text ≡ telling.label_line label epoch) }
+    ensures { Spells result (telling.label_line label epoch) }
 {
     match label {
         Some(label) => format!(in alloc; "label {label} epoch {epoch}\n"),
@@ -190,7 +189,7 @@ pub(crate) fn label_line(alloc: Global, label: Option<u64>, epoch: u64) -> Resul
 
 /// The line of a held DII.
 pub(crate) fn dii_line(alloc: Global, tuned: &Tuned) -> Result<String, NoMemory>
-    ensures { IfOk result (λ text. string_bytes text ≡ telling.dii_line tuned.now) }
+    ensures { Spells result (telling.dii_line tuned.now) }
 {
     let modules = tuned.lines().len() as u64;
     numbers_line(
@@ -208,8 +207,7 @@ pub(crate) fn dii_line(alloc: Global, tuned: &Tuned) -> Result<String, NoMemory>
 
 /// The line of a path, with its answer and its module.
 pub(crate) fn path_line(alloc: Global, shot: &Shot, path: &Path) -> Result<String, NoMemory>
-    ensures { IfOk result (λ text.
-        string_bytes text ≡ telling.path_line (held_of shot.now) path.now) }
+    ensures { Spells result (telling.path_line (held_of shot.now) path.now) }
 {
     let answer = resolve(shot, path)?;
     let answer = answer_text(alloc, &answer)?;
@@ -223,8 +221,7 @@ fn path_text(
     answer: &str,
     home: Option<u16>,
 ) -> Result<String, NoMemory>
-    ensures { IfOk result (λ text.
-        string_bytes text ≡ telling.path_text place.now answer.now home) }
+    ensures { Spells result (telling.path_text place.now answer.now home) }
 {
     let mut text = String::from_str(alloc, "path ")?;
     text.push_str(place)?;

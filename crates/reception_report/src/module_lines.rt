@@ -1,8 +1,10 @@
 //! The lines of modules.
 
-ghost use Rattle.std.specs.Prelude.{◌≡◌, ◌≤◌, ◌++◌, ◌∷◌, if◌then◌else◌, IfOk, OnOk};
+ghost use Rattle.std.specs.Prelude.{◌≡◌, ◌≤◌, ◌++◌, ◌∷◌, if◌then◌else◌, IfOk};
 ghost use Rattle.std.specs.String.{string_bytes};
+ghost use Rattle.oc_bytes.specs.Outcome.{Spells, AddsText};
 ghost use Rattle.reception_report.specs.Missing as missing;
+ghost use Rattle.reception_report.specs.Inner.Missing as inner;
 ghost use Rattle.reception_report.specs.Telling as telling;
 
 use crate::lines::numbers_line;
@@ -12,7 +14,7 @@ use std::alloc::Global;
 
 /// The line of a module that a held DII lists.
 pub(crate) fn module_line(alloc: Global, line: &Line) -> Result<String, NoMemory>
-    ensures { IfOk result (λ text. string_bytes text ≡ telling.module_line line.now) }
+    ensures { Spells result (telling.module_line line.now) }
 {
     let there = there_text(alloc, &line.stored)?;
     numbers_line(
@@ -48,7 +50,7 @@ fn one_where(there: bool) -> u32
 
 /// What is there of a module.
 fn there_text(alloc: Global, stored: &Stored) -> Result<String, NoMemory>
-    ensures { IfOk result (λ text. string_bytes text ≡ telling.there_text stored.now) }
+    ensures { Spells result (telling.there_text stored.now) }
 {
     match stored.slot() {
         Slot::Whole(_) => String::from_str(alloc, " whole"),
@@ -59,7 +61,7 @@ fn there_text(alloc: Global, stored: &Stored) -> Result<String, NoMemory>
 
 /// The numbers of the blocks that are missing, as runs.
 fn missing_text(alloc: Global, stored: &Stored) -> Result<String, NoMemory>
-    ensures { IfOk result (λ text. string_bytes text ≡ telling.missing_text stored.now) }
+    ensures { Spells result (telling.missing_text stored.now) }
 {
     let mut text = String::from_str(alloc, " missing")?;
     let mut begun = None;
@@ -85,9 +87,9 @@ fn step(
     block: u32,
     there: bool,
 ) -> Result<Option<u32>, NoMemory>
-    requires { missing.IsBegun begun block }
+    requires { inner.IsBegun begun block }
     ensures text { IfOk result (λ next.
-        string_bytes text.new ≡ string_bytes text.old ++ missing.ended_text begun block there) }
+        string_bytes text.new ≡ string_bytes text.old ++ inner.ended_text begun block there) }
     ensures begun { IfOk result (λ next. next ≡ missing.begun_after begun block there) }
 {
     match (begun, there) {
@@ -102,8 +104,7 @@ fn step(
 
 /// Adds a run of numbers after a space.
 fn push_run(alloc: Global, text: &mut String, first: u32, last: u32) -> Result<(), NoMemory>
-    ensures { OnOk result
-        (string_bytes text.new ≡ string_bytes text.old ++ 32 ∷ missing.run_text (first, last)) }
+    ensures { AddsText result text.old text.new (32 ∷ missing.run_text (first, last)) }
 {
     let run = if first == last {
         format!(in alloc; " {first}")?

@@ -1,17 +1,18 @@
 //! The report on a reception.
 
-ghost use Rattle.std.specs.Prelude.{◌≡◌, ◌==◌, [], ℕ, List, option_map, OnOk};
+ghost use Rattle.std.specs.Prelude.{◌≡◌, ◌==◌, ℕ, List, option_map, OnOk};
 ghost use Rattle.std.specs.List.{filter, flat_map};
 ghost use Rattle.std.specs.String.{string_bytes};
 ghost use Rattle.path_tree.specs.Paths.{Bytes};
 ghost use Rattle.path_resolver.specs.Shots as shots;
 ghost use Rattle.path_resolver.specs.Shots.{held_of, view_gateway};
-ghost use Rattle.shell_streams.specs.Sending.{Puts};
+ghost use Rattle.shell_streams.specs.Sending.{Puts, IsFlushed};
 ghost use Rattle.tuner_core.specs.Turns.{snapshot_after};
 ghost use Rattle.reception_report.specs.Hearing.{Follows, IsReception};
 ghost use Rattle.reception_report.specs.Listing.{listed_text, more_unless};
 ghost use Rattle.reception_report.specs.Report.{held_text, report_text, sections_text};
 ghost use Rattle.reception_report.specs.Telling as telling;
+ghost use Rattle.reception_report.specs.Inner.Telling as inner;
 ghost use Rattle.reception_report.specs.Telling.{lines_of};
 
 use crate::following::Follower;
@@ -38,7 +39,7 @@ pub fn write_report<O: Output>(
         → IsReception pid reception.now packets
         → Puts result (O.state out.old) (O.state out.new)
         (report_text pid packets reception.now.counts.short_tail) }
-    ensures empty { OnOk result ((O.state out.new).pending ≡ []) }
+    ensures empty { OnOk result (IsFlushed (O.state out.new)) }
 {
     let line = counts_line(alloc, &reception.counts)?;
     put(line, out)?;
@@ -200,7 +201,7 @@ fn put_module<O: Output>(
     line: &Line,
     out: &mut O,
 ) -> Result<(), OutputFault>
-    ensures { Puts result (O.state out.old) (O.state out.new) (telling.module_if id line.now) }
+    ensures { Puts result (O.state out.old) (O.state out.new) (inner.module_if id line.now) }
 {
     if line.line.id != id {
         return Ok(());

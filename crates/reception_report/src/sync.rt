@@ -1,9 +1,10 @@
 //! Where the sync byte stands in an input that isn't one of packets.
 
-ghost use Rattle.std.specs.Prelude.{◌≡◌, ◌<◌, IfOk};
-ghost use Rattle.std.specs.String.{string_bytes};
+ghost use Rattle.std.specs.Prelude.{◌≡◌, ◌<◌};
+ghost use Rattle.oc_bytes.specs.Outcome.{Spells};
 ghost use Rattle.reception_report.specs.Sync as sync;
 
+use carousel_profile::PACKET_LENGTH;
 use oc_bytes::NoMemory;
 use std::alloc::Global;
 
@@ -24,8 +25,8 @@ pub enum SyncPlace {
 pub fn sync_of(front: &[u8]) -> SyncPlace
     ensures { result ≡ sync.sync_of front.now }
 {
-    if let Some(place) = place_at(188, front) {
-        return SyncPlace::At(place, 188);
+    if let Some(place) = place_at(PACKET_LENGTH, front) {
+        return SyncPlace::At(place, PACKET_LENGTH);
     }
     if let Some(place) = place_at(192, front) {
         return SyncPlace::At(place, 192);
@@ -69,7 +70,7 @@ fn stands_at(distance: usize, front: &[u8], place: usize) -> bool
 
 /// What is said of an input that isn't one of packets, without a line feed. This project's own text; out of memory is the only refusal.
 pub fn sync_text(alloc: Global, place: SyncPlace) -> Result<String, NoMemory>
-    ensures { IfOk result (λ text. string_bytes text ≡ sync.sync_line place) }
+    ensures { Spells result (sync.sync_line place) }
 {
     match place {
         SyncPlace::At(place, distance) => format!(in alloc;

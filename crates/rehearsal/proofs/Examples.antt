@@ -1,16 +1,10 @@
 -- Scripts whose events are known, and words of a reply, computed by the definitions.
-use Rattle.std.proofs.Common.{◌≡◌, List, [], ◌∷◌, map, None, refl, codes}
-use Rattle.path_tree.specs.Paths.{PathNames}
+use Rattle.rehearsal.proofs.Words.{◌≡◌, List, [], ◌∷◌, map, None, refl, codes, PathNames, During, Act, LineFields, Commit, Draw, Open, events_from, none_pending, reply_words}
 use Rattle.path_tree.specs.declared.tree.Edit.TheVariants as edits
 use Rattle.path_resolver.specs.declared.answer.Answer.TheVariants as answers
 use Rattle.ts_packet.specs.declared.Fate.TheVariants.{Lose}
-use Rattle.session_script.specs.declared.script.Stage.TheVariants.{During}
-use Rattle.session_script.specs.Scripts.{Act, LineFields}
 use Rattle.session_script.specs.Scripts as lines
-use Rattle.carousel_world.specs.Events.{Commit, Draw, Open}
 use Rattle.carousel_world.specs.declared.event.Reply.TheVariants as replies
-use Rattle.rehearsal.specs.Lines.{events_from, none_pending}
-use Rattle.rehearsal.specs.Reports.{reply_words}
 
 abbrev a : PathNames
 a = codes "a" ∷ []

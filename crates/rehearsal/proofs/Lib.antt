@@ -1,3 +1,4 @@
+pub mod Words
 mod Adding
 mod Examples
 mod FilledBytes

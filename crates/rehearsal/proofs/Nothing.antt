@@ -1,8 +1,7 @@
 -- A world in which nothing happened.
-use Rattle.std.proofs.Common.{ℕ, List, [], arith}
+use Rattle.rehearsal.proofs.Words.{ℕ, List, [], arith, MeetsHeadline, EveryRunMeetsTheHeadline}
 use Rattle.std.proofs.lemmas.List.Elements.{All-nil}
 use Rattle.generation.specs.Lawful.{ArePublishable, IsPublishable}
-use Rattle.carousel_world.specs.Promises.{MeetsHeadline, EveryRunMeetsTheHeadline}
 
 no_trees : ArePublishable 1 []
 no_trees = record { carousel_id = omega arith; few = omega arith; each = All-nil IsPublishable }

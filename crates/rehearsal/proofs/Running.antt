@@ -1,28 +1,15 @@
 -- Events one after another, and their report.
-use Rattle.std.proofs.Common.{◌≡◌, ℕ, List, [], ◌∷◌, ◌++◌, Result, Ok, Err, refl, sym, ap, ◌∙◌, append-nil, append_assoc, subst}
-use Rattle.std.specs.Prelude.{OnOk}
+use Rattle.rehearsal.proofs.Words.{◌≡◌, ℕ, List, [], ◌∷◌, ◌++◌, Result, Ok, Err, refl, sym, ap, ◌∙◌, append-nil, append_assoc, subst, OnOk, Fields, LineFields, Bytes, OutputState, Puts, puts_nothing, puts_none, puts_then, puts_err, puts_as, Step, WorldState, initial_world, reply_to, happens, after_all, Reply, MeetsHeadline, world_after, Pending, events_of_line, pending_after, events_from, none_pending, subject_words, path_words, line_of, report_line, report_in, report_of, Stands, Runs, HasRun}
 use Rattle.carousel_world.proofs.CallerLemmas.{after_all-append}
-use Rattle.session_script.specs.Scripts.{Fields, LineFields}
-use Rattle.path_tree.specs.Paths.{Bytes}
-use Rattle.shell_streams.specs.Sending.{OutputState, Puts}
 use Rattle.shell_streams.specs.declared.output.OutputFault.{OutputFault}
 use Rattle.shell_streams.specs.declared.output.OutputFault.TheVariants as faults
-use Rattle.shell_streams.proofs.CallerLemmas.{puts_nothing, puts_none, puts_then, puts_err, puts_as}
-use Rattle.carousel_world.specs.Events.{Step}
-use Rattle.carousel_world.specs.World.{WorldState, initial_world, reply_to, happens, after_all}
-use Rattle.carousel_world.specs.declared.event.Reply.{Reply}
 use Rattle.carousel_world.specs.View.{Kept, StandsFor}
-use Rattle.carousel_world.specs.Promises.{MeetsHeadline, world_after}
-use Rattle.rehearsal.specs.Lines.{Pending, events_of_line, pending_after, events_from, none_pending}
-use Rattle.rehearsal.specs.Reports.{subject_words, path_words, line_of, report_line, report_in, report_of}
 use Rattle.rehearsal.specs.Rehearsals.{Rehearses}
-use Rattle.rehearsal.specs.Inner.Steps.{Stands, Runs, HasRun}
 use Rattle.rehearsal.specs.declared.rehearsal.Rehearsal.{Rehearsal}
 
 report_more : (w : WorldState) (a b : List Step) → report_in w (a ++ b) ≡ report_in w a ++ report_in (after_all w a) b
 report_more w [] b = refl
-report_more w (e ∷ es) b =
-    ap (λ bs. report_line e (reply_to w e) ++ bs) (report_more (happens w e) es b)
+report_more w (e ∷ es) b = ap (λ bs. report_line e (reply_to w e) ++ bs) (report_more (happens w e) es b)
     ∙ sym (append_assoc (report_line e (reply_to w e)) (report_in (happens w e) es) (report_in (after_all w (e ∷ es)) b))
 
 -- the report of events, and of others after them
@@ -128,9 +115,7 @@ runs_first r ws lines o s = record { happened = []; pending = none_pending; spli
 pub runs_line : {X : _} {F : _} {g : _} {ws : List ℕ} {r s : Rehearsal X F g} {all : List LineFields} (line : LineFields) (lines : List LineFields) {a b c : OutputState} (h : HasRun r ws all (line ∷ lines) a b)
     → Runs {T = Unit {0}} (Ok tt) b c ws h.happened (events_of_line h.pending line.act)
     → Stands s ws (h.happened ++ events_of_line h.pending line.act) (pending_after h.pending line.act) → HasRun s ws all lines a c
-runs_line {ws = ws} line lines h ran stands =
-    let es = events_of_line h.pending line.act in
-    let below = events_from (pending_after h.pending line.act) lines in
+runs_line {ws = ws} line lines h ran stands = let es = events_of_line h.pending line.act in let below = events_from (pending_after h.pending line.act) lines in
     record {
       happened = h.happened ++ es;
       pending = pending_after h.pending line.act;
@@ -143,19 +128,17 @@ runs_line {ws = ws} line lines h ran stands =
 -- a fault ended a line
 pub rehearses_part : {T U : Type 0} {X : _} {F : _} {g : _} {ws : List ℕ} {r : Rehearsal X F g} (script : Fields) (line : LineFields) (lines : List LineFields) {a b c : OutputState} {f : OutputFault}
     (h : HasRun r ws script.lines (line ∷ lines) a b) → Runs {T = T} (Err f) b c ws h.happened (events_of_line h.pending line.act) → Rehearses {T = U} (Err f) a c ws script
-rehearses_part {ws = ws} script line lines h ran =
-    let below = events_from (pending_after h.pending line.act) lines in
-    record {
-      happened = h.happened ++ ran.happened;
-      rest = ran.rest ++ below;
-      events = h.split ∙ ap (λ (ys : List Step). h.happened ++ (ys ++ below)) ran.split
-          ∙ ap (λ (ys : List Step). h.happened ++ ys) (append_assoc ran.happened ran.rest below)
-          ∙ sym (append_assoc h.happened ran.happened (ran.rest ++ below));
-      all = tt;
-      puts = puts_err (puts_as (reports_then ws [] h.happened ran.happened) (puts_then h.puts ran.puts));
-      empty = tt;
-      headline = ran.headline;
-    }
+rehearses_part {ws = ws} script line lines h ran = let below = events_from (pending_after h.pending line.act) lines in record {
+  happened = h.happened ++ ran.happened;
+  rest = ran.rest ++ below;
+  events = h.split ∙ ap (λ (ys : List Step). h.happened ++ (ys ++ below)) ran.split
+      ∙ ap (λ (ys : List Step). h.happened ++ ys) (append_assoc ran.happened ran.rest below)
+      ∙ sym (append_assoc h.happened ran.happened (ran.rest ++ below));
+  all = tt;
+  puts = puts_err (puts_as (reports_then ws [] h.happened ran.happened) (puts_then h.puts ran.puts));
+  empty = tt;
+  headline = ran.headline;
+}
 
 -- all lines were run, and what was pending was written, or a fault ended that
 pub rehearses_all : {T : Type 0} {X : _} {F : _} {g : _} {ws : List ℕ} {r : Rehearsal X F g} (script : Fields) {a b c : OutputState} (outcome : Result T OutputFault)

@@ -1,11 +1,6 @@
 -- A report, line by line.
-use Rattle.std.proofs.Common.{◌≡◌, List, [], ◌∷◌, ◌++◌, map, refl, ap}
-use Rattle.std.specs.List.{flat_map}
-use Rattle.carousel_world.specs.Events.{view}
+use Rattle.rehearsal.proofs.Words.{◌≡◌, List, [], ◌∷◌, ◌++◌, map, refl, ap, flat_map, view, Reply, Bytes, report, report_line}
 use Rattle.carousel_world.specs.declared.event.Event.{Event}
-use Rattle.carousel_world.specs.declared.event.Reply.{Reply}
-use Rattle.path_tree.specs.Paths.{Bytes}
-use Rattle.rehearsal.specs.Reports.{report, report_line}
 
 abbrev pub told_line : Event × Reply → Bytes
 told_line x = report_line (view x.0) x.1

@@ -1,10 +1,9 @@
 -- The report of what happened in a world: a line for each event, with its reply. These are this project's own texts.
-use Rattle.std.specs.Prelude.{ℕ, List, [], ◌∷◌, ◌++◌, codes}
-use Rattle.std.specs.Fmt.{decimal}
+use Rattle.std.specs.Prelude.{ℕ, List, [], ◌∷◌, ◌++◌, decimal}
 use Rattle.path_tree.specs.Paths.{Bytes}
 use Rattle.path_tree.specs.Texts.{text_of}
-use Rattle.shell_words.specs.Reports.{label_word, answer_tail}
-use Rattle.shell_words.specs.Texts.{with_number, answer_line, refusal_line}
+use Rattle.shell_words.specs.Reports.{commit_words, draw_words, open_words, committed_words, refused_words}
+use Rattle.shell_words.specs.Reports.{drawn_words, draws_full_words, opened_words, answer_tail}
 use Rattle.carousel_world.specs.Events.{Step, Commit, Draw, Open}
 use Rattle.carousel_world.specs.World.{WorldState, initial_world, replies_to}
 use Rattle.carousel_world.specs.declared.event.Reply.{Reply}
@@ -12,9 +11,9 @@ use Rattle.carousel_world.specs.declared.event.Reply.TheVariants as replies
 
 -- what a line begins with
 abbrev pub subject_words : Step → Bytes
-subject_words (Commit editor edits) = with_number (codes "commit") editor
-subject_words (Draw asked fates) = codes "draw"
-subject_words (Open reader path) = with_number (codes "open") reader
+subject_words (Commit editor edits) = commit_words editor
+subject_words (Draw asked fates) = draw_words
+subject_words (Open reader path) = open_words reader
 
 -- the path of an open, as text
 abbrev pub path_words : Step → Bytes
@@ -22,11 +21,11 @@ path_words (Open reader path) = text_of path
 path_words _ = []
 
 abbrev pub reply_words : Bytes → Reply → Bytes
-reply_words path (replies.Committed number) = with_number (codes "generation") number
-reply_words path (replies.Refused refusal) = codes "refused" ++ 32 ∷ refusal_line refusal
-reply_words path (replies.Drawn generation first count) = decimal generation ++ (32 ∷ decimal first ++ 32 ∷ decimal count)
-reply_words path (replies.DrawsFull draws) = with_number (codes "refused draws-full") draws
-reply_words path (replies.Opened label answer) = label_word label ++ (32 ∷ path ++ 32 ∷ answer_line answer)
+reply_words path (replies.Committed number) = committed_words number
+reply_words path (replies.Refused refusal) = refused_words refusal
+reply_words path (replies.Drawn generation first count) = drawn_words generation first count
+reply_words path (replies.DrawsFull draws) = draws_full_words draws
+reply_words path (replies.Opened label answer) = opened_words label path answer
 
 abbrev pub reply_tail : Reply → Bytes
 reply_tail (replies.Opened label answer) = answer_tail answer

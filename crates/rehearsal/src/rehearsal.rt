@@ -1,5 +1,4 @@
-ghost use Rattle.std.specs.Prelude.{◌++◌, ◌∷◌, [], List, ℕ, IfOk, OnOk, map};
-ghost use Rattle.std.specs.List.{All};
+ghost use Rattle.std.specs.Prelude.{◌++◌, ◌∷◌, [], List, ℕ, IfOk, OnOk, map, All};
 ghost use Rattle.session_script.specs.declared.parts.TaskLine.{TaskLine as TaskLines};
 ghost use Rattle.session_script.specs.declared.script.Stage.{Stage};
 ghost use Rattle.session_script.specs.declared.script.Stage.TheVariants.{Before, During};
@@ -16,6 +15,7 @@ ghost use Rattle.rehearsal.specs.Rehearsals.{Rehearses};
 use crate::interpreter::Interpreter;
 use crate::report::put_line;
 use crate::subject::Subject;
+use carousel_profile::SCRIPT_CAROUSEL;
 use carousel_world::{Event, World, every_run_meets_the_headline};
 use cycle_planner::{MOST_DRAWN, Weigh};
 use oc_bytes::NoMemory;
@@ -24,7 +24,7 @@ use shell_streams::{Output, OutputFault};
 use std::alloc::Global;
 
 /// The carousel of a rehearsal's world.
-const CAROUSEL: u32 = 1;
+const CAROUSEL: u32 = SCRIPT_CAROUSEL;
 
 /// How many items a settling draw asks for: the most that one may.
 const SETTLING: u32 = MOST_DRAWN;

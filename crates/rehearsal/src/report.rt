@@ -1,6 +1,6 @@
 //! Lines of the report.
-ghost use Rattle.std.specs.Prelude.{◌≡◌, ◌++◌, ◌∷◌, IfOk};
-ghost use Rattle.std.specs.String.{string_bytes};
+ghost use Rattle.std.specs.Prelude.{◌++◌, ◌∷◌, string_bytes};
+ghost use Rattle.oc_bytes.specs.Outcome.{Spells};
 ghost use Rattle.shell_streams.specs.Sending.{Puts};
 ghost use Rattle.rehearsal.specs.Reports as texts;
 
@@ -31,9 +31,8 @@ pub(crate) fn put_line<O: Output>(
 
 /// The words of a line up to a file's digits or a folder's names.
 fn front_words(alloc: Global, subject: &Subject, reply: &Reply) -> Result<String, NoMemory>
-    ensures { IfOk result (λ text.
-        string_bytes text
-        ≡ string_bytes subject.now.words
+    ensures { Spells result
+        (string_bytes subject.now.words
         ++ 32 ∷ texts.reply_words (string_bytes subject.now.path) reply.now) }
 {
     let reply = reply_words(alloc, subject.path.as_str(), reply)?;
@@ -42,7 +41,7 @@ fn front_words(alloc: Global, subject: &Subject, reply: &Reply) -> Result<String
 }
 
 fn reply_words(alloc: Global, path: &str, reply: &Reply) -> Result<String, NoMemory>
-    ensures { IfOk result (λ text. string_bytes text ≡ texts.reply_words path.now reply.now) }
+    ensures { Spells result (texts.reply_words path.now reply.now) }
 {
     match reply {
         Reply::Committed(number) => committed_text(alloc, *number),

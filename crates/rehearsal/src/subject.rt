@@ -1,5 +1,5 @@
-ghost use Rattle.std.specs.Prelude.{◌≡◌, IfOk};
-ghost use Rattle.std.specs.String.{string_bytes};
+ghost use Rattle.std.specs.Prelude.{IfOk, string_bytes};
+ghost use Rattle.oc_bytes.specs.Outcome.{Spells};
 ghost use Rattle.carousel_world.specs.Events.{view};
 ghost use Rattle.rehearsal.specs.Reports as texts;
 
@@ -32,7 +32,7 @@ impl Subject {
 }
 
 fn subject_words(alloc: Global, event: &Event) -> Result<String, NoMemory>
-    ensures { IfOk result (λ text. string_bytes text ≡ texts.subject_words (view event.now)) }
+    ensures { Spells result (texts.subject_words (view event.now)) }
 {
     match event {
         Event::Commit { editor, edits: _ } => commit_text(alloc, *editor),
@@ -42,7 +42,7 @@ fn subject_words(alloc: Global, event: &Event) -> Result<String, NoMemory>
 }
 
 fn path_words(alloc: Global, event: &Event) -> Result<String, NoMemory>
-    ensures { IfOk result (λ text. string_bytes text ≡ texts.path_words (view event.now)) }
+    ensures { Spells result (texts.path_words (view event.now)) }
 {
     match event {
         Event::Open { reader: _, path } => path.print(),

@@ -1,7 +1,7 @@
 //! The report of what has happened.
-ghost use Rattle.std.specs.Prelude.{◌≡◌, [], map, OnOk};
+ghost use Rattle.std.specs.Prelude.{map, OnOk};
 ghost use Rattle.carousel_world.specs.Events as events;
-ghost use Rattle.shell_streams.specs.Sending.{Puts};
+ghost use Rattle.shell_streams.specs.Sending.{Puts, IsFlushed};
 ghost use Rattle.rehearsal.specs.Reports as texts;
 
 use crate::report::put_line;
@@ -19,7 +19,7 @@ pub fn put_report<O: Output>(
 ) -> Result<(), OutputFault>
     ensures puts { Puts result (O.state out.old) (O.state out.new)
         (texts.report (map (λ x. events.view x.0) told.now) (map (λ x. x.1) told.now)) }
-    ensures empty { OnOk result ((O.state out.new).pending ≡ []) }
+    ensures empty { OnOk result (IsFlushed (O.state out.new)) }
 {
     for one in told {
         put_told(alloc, one, out)?;

@@ -1,12 +1,15 @@
 -- Memory is asked for only where a section is complete.
 use Rattle.std.proofs.Common.{◌≡◌, ℕ, ◌+◌, ◌<◌, ◌≤◌, Bool, false, List, [], ◌∷◌, ◌++◌, Option, Some, length, take, drop, refl, sym, ◌∙◌, ap, subst, arith, length-append}
 use Rattle.std.specs.Prelude.{Result, Ok, Err, OnErr}
+use Rattle.carousel_profile.specs.declared.TheConstants.{PACKET_LENGTH}
 use Rattle.ts_packet.specs.Packets.{Fields}
 use Rattle.section_stream.specs.Cuts.{Bytes, candidates}
-use Rattle.section_stream.specs.Kept.{with_unfinished}
+use Rattle.section_stream.specs.Inner.Kept.{with_unfinished}
 use Rattle.section_stream.specs.Pieces.{packets_of, rest_of, StandsForBytes}
-use Rattle.section_stream.specs.Rules.{After, DemuxState, Receiving, StandsFor, Whole, after_all, as_grown, jumps_from, one_more, outputs, step, takes}
-use Rattle.section_stream.specs.Steps.{Completes, Gives, HasDone, HasOut, done_by, kept_unless, no_section_in, open_all, with_packet}
+use Rattle.section_stream.specs.Rules.{After, DemuxState, Receiving, StandsFor, Whole, after_all, as_grown, jumps_from, one_more, step, takes}
+use Rattle.section_stream.specs.Inner.Rules.{outputs}
+use Rattle.section_stream.specs.Steps.{kept_unless, no_section_in}
+use Rattle.section_stream.specs.Inner.Steps.{Completes, Gives, HasDone, HasOut, done_by, open_all, with_packet}
 use Rattle.section_stream.specs.declared.counts.Counts.{Counts}
 use Rattle.section_stream.proofs.Bytes.{ends_cut, ends_some, packets_some}
 use Rattle.section_stream.proofs.Feeding.{cuts_step}
@@ -32,7 +35,7 @@ longer xs ys all e h = subst (λ zs. length xs < length zs) (sym e) (omega (arit
 
 -- ---- the sections of a packet
 
-pub open-gives : (here : Bytes) (c : Counts) (n : ℕ) → length here ≤ 188 → no_section_in here ≡ false → as_grown here ≡ Whole n → 0 < length (open_all here c).out
+pub open-gives : (here : Bytes) (c : Counts) (n : ℕ) → length here ≤ PACKET_LENGTH → no_section_in here ≡ false → as_grown here ≡ Whole n → 0 < length (open_all here c).out
 open-gives here c n h e g =
     subst (λ (a : After). 0 < length a.out) (sym (whole_step here c n h e g)) (more_left (take n here ∷ []) (open_all (drop n here) c).out (omega arith))
 
@@ -61,21 +64,21 @@ pub later_gives : (s t : Receiving) (x : Bytes) (xs before mid : List Bytes) →
 later_gives s t x xs before mid m g = more_right (step s x).1 (outputs (step s x).0 xs) (subst (λ y. 0 < length (outputs y xs)) (sym m.state) g)
 
 -- the packet at the front of some bytes
-first_packet : (rest packet behind : Bytes) → 188 ≤ length rest → packet ≡ take 188 rest → behind ≡ drop 188 rest → packet ∷ packets_of behind ≡ packets_of rest
+first_packet : (rest packet behind : Bytes) → PACKET_LENGTH ≤ length rest → packet ≡ take PACKET_LENGTH rest → behind ≡ drop PACKET_LENGTH rest → packet ∷ packets_of behind ≡ packets_of rest
 first_packet rest packet behind h p b =
-    ap (λ x. x ∷ packets_of behind) p ∙ ap (λ x. take 188 rest ∷ packets_of x) b ∙ sym (packets_some rest h)
+    ap (λ x. x ∷ packets_of behind) p ∙ ap (λ x. take PACKET_LENGTH rest ∷ packets_of x) b ∙ sym (packets_some rest h)
 
-pub chunk_gives : (s : Receiving) (rest packet : Bytes) → 188 ≤ length rest → packet ≡ take 188 rest → Completes (step s packet) → 0 < length (outputs s (packets_of rest))
+pub chunk_gives : (s : Receiving) (rest packet : Bytes) → PACKET_LENGTH ≤ length rest → packet ≡ take PACKET_LENGTH rest → Completes (step s packet) → 0 < length (outputs s (packets_of rest))
 chunk_gives s rest packet h p g =
-    subst (λ ps. 0 < length (outputs s ps)) (first_packet rest packet (drop 188 rest) h p refl) (first_gives s packet (packets_of (drop 188 rest)) g)
+    subst (λ ps. 0 < length (outputs s ps)) (first_packet rest packet (drop PACKET_LENGTH rest) h p refl) (first_gives s packet (packets_of (drop PACKET_LENGTH rest)) g)
 
-pub chunk_later : (s t : Receiving) (rest packet behind : Bytes) (before mid : List Bytes) → 188 ≤ length rest → packet ≡ take 188 rest → behind ≡ drop 188 rest
+pub chunk_later : (s t : Receiving) (rest packet behind : Bytes) (before mid : List Bytes) → PACKET_LENGTH ≤ length rest → packet ≡ take PACKET_LENGTH rest → behind ≡ drop PACKET_LENGTH rest
     → Gives (step s packet) t before mid → 0 < length (outputs t (packets_of behind)) → 0 < length (outputs s (packets_of rest))
 chunk_later s t rest packet behind before mid h p b m g =
     subst (λ ps. 0 < length (outputs s ps)) (first_packet rest packet behind h p b) (later_gives s t packet (packets_of behind) before mid m g)
 
 pub piece_completes : (d : DemuxState) (r s : Receiving) (u first front behind piece : Bytes) (n : ℕ) → with_unfinished r u ≡ d → s ≡ r
-    → length u + n ≡ 188 → n ≤ length piece → front ≡ take n piece → behind ≡ drop n piece → first ≡ u ++ front
+    → length u + n ≡ PACKET_LENGTH → n ≤ length piece → front ≡ take n piece → behind ≡ drop n piece → first ≡ u ++ front
     → 0 < length (outputs s (first ∷ packets_of behind))
     → (bytes : Bytes) → StandsForBytes d bytes → length (candidates d.pid (packets_of bytes)) < length (candidates d.pid (packets_of (bytes ++ piece)))
 piece_completes d r s u first front behind piece n v c size long f b p g =

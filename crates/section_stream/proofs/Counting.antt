@@ -2,6 +2,7 @@
 use Rattle.std.proofs.Common.{◌≡◌, ℕ, zero, suc, ◌+◌, Bool, true, false, not, ◌&&◌, ◌||◌, ◌==◌, nat_lt, List, [], ◌∷◌, ◌++◌, length, take, drop, slice_index, Option, Some, None, Result, Ok, Err, if◌then◌else◌, refl, sym, ◌∙◌, ap, subst, arith, append_assoc, append-nil, length-append}
 use Rattle.std.specs.Str.{bytes_eq}
 use Rattle.std.proofs.lemmas.Slice.Eq.{bytes_eq-Decides}
+use Rattle.carousel_profile.specs.declared.TheConstants.{PACKET_LENGTH}
 use Rattle.oc_bytes.specs.Outcome.{cap_at_u64}
 use Rattle.ts_packet.specs.Packets.{Fields, parse_packet}
 use Rattle.ts_packet.specs.declared.PacketFault.{PacketFault}
@@ -10,7 +11,8 @@ use Rattle.section_stream.specs.Cuts.{Bytes}
 use Rattle.section_stream.specs.declared.counts.Counts.{Counts}
 use Rattle.section_stream.specs.Rules.{HasReceived, as_receiving, Receiving, Grown, Growing, Oversize, Whole, as_grown, open_on, after_append, goes_on, closes, starts, after_packet, step, one_more, is_last, jumps_from, up, at_start, after_all}
 use Rattle.section_stream.specs.Pieces.{packets_of}
-use Rattle.section_stream.specs.Steps.{done_by, kept_unless}
+use Rattle.section_stream.specs.Steps.{kept_unless}
+use Rattle.section_stream.specs.Inner.Steps.{done_by}
 use Rattle.section_stream.specs.Counting.{has_fault, holds_of, has_payload, number_from, number_of, fault_at, other_pid_at, no_payload_at, payload_in, or_else, last_payload, duplicate_at, jump_at, orphan_at, bad_pointer_at, cut_at, open_oversize_at, begun_oversize_at, nothing_open, pointer_is_within, part_before, open_grown, is_growing, is_oversize, last_is_oversize, counts_over, CountsAreNumbers}
 use Rattle.section_stream.proofs.Outputs.{fed_by, pid_fed}
 
@@ -65,13 +67,13 @@ acted start o payload c =
       orphans = raised (not start && nothing_open o) c.orphans;
       bad_pointer = raised (start && not within) c.bad_pointer;
       cut = raised (start && within && is_growing g) c.cut;
-      oversize = raised (start && within && last_is_oversize 188 (drop (1 + slice_index payload 0) payload)) (raised ((not start || within) && is_oversize g) c.oversize);
+      oversize = raised (start && within && last_is_oversize PACKET_LENGTH (drop (1 + slice_index payload 0) payload)) (raised ((not start || within) && is_oversize g) c.oversize);
     }
 
 starts_counts : (o : Option Bytes) (payload : Bytes) (c : Counts) (t : Bool) → nat_lt (slice_index payload 0) (length payload) ≡ t → (starts o payload c).counts ≡ acted true o payload c
 starts_counts o payload c true e =
     let p = slice_index payload 0 in
-    rw e (open_counts 188 (drop (1 + p) payload) (closes o (take p (drop 1 payload)) c).counts ∙ ap (opened_counts 188 (drop (1 + p) payload)) (closes_counts o (take p (drop 1 payload)) c))
+    rw e (open_counts PACKET_LENGTH (drop (1 + p) payload) (closes o (take p (drop 1 payload)) c).counts ∙ ap (opened_counts PACKET_LENGTH (drop (1 + p) payload)) (closes_counts o (take p (drop 1 payload)) c))
 starts_counts o payload c false e = rw e refl
 
 done_counts : (start : Bool) (o : Option Bytes) (payload : Bytes) (c : Counts) → (done_by start o payload c).counts ≡ acted start o payload c
@@ -101,7 +103,7 @@ raised_by p opened a b d j c =
       orphans = raised (t && (not p.start && nothing_open o)) c.orphans;
       bad_pointer = raised (t && (p.start && not within)) c.bad_pointer;
       cut = raised (t && (p.start && within && is_growing g)) c.cut;
-      oversize = raised (t && (p.start && within && last_is_oversize 188 (drop (1 + slice_index p.payload 0) p.payload))) (raised (t && ((not p.start || within) && is_oversize g)) c.oversize);
+      oversize = raised (t && (p.start && within && last_is_oversize PACKET_LENGTH (drop (1 + slice_index p.payload 0) p.payload))) (raised (t && ((not p.start || within) && is_oversize g)) c.oversize);
       short_tail = c.short_tail;
     }
 
@@ -133,7 +135,7 @@ raised_in pid last opened r c =
       bad_pointer = raised (holds_of (λ p. taken p && (p.start && not (pointer_is_within p.payload))) r) c.bad_pointer;
       cut = raised (holds_of (λ p. taken p && (p.start && pointer_is_within p.payload && is_growing (grown p))) r) c.cut;
       oversize =
-          raised (holds_of (λ p. taken p && (p.start && pointer_is_within p.payload && last_is_oversize 188 (drop (1 + slice_index p.payload 0) p.payload))) r)
+          raised (holds_of (λ p. taken p && (p.start && pointer_is_within p.payload && last_is_oversize PACKET_LENGTH (drop (1 + slice_index p.payload 0) p.payload))) r)
           (raised (holds_of (λ p. taken p && ((not p.start || pointer_is_within p.payload) && is_oversize (grown p))) r) c.oversize);
       short_tail = c.short_tail;
     }

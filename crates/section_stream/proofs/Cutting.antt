@@ -3,6 +3,7 @@ use Rattle.std.proofs.Common.{◌≡◌, ℕ, zero, suc, ◌+◌, ◌%◌, ◌�
 use Rattle.std.proofs.lemmas.Grind.{common_steps}
 use Rattle.std.proofs.lemmas.List.{take-append-le, map-append}
 use Rattle.std.proofs.lemmas.Bool.{le-leb}
+use Rattle.carousel_profile.specs.declared.TheConstants.{PACKET_LENGTH}
 use Rattle.section_stream.specs.Cuts.{Bytes, Received, Cut, whole_len, going_on, opened_in, cuts_at, cuts_of, pointer_of, pointer_fits}
 use Rattle.section_stream.specs.Rules.{After, Grown, Growing, Oversize, Whole, as_grown, open_on, after_append, goes_on, closes, starts}
 use Rattle.section_stream.specs.declared.counts.Counts.{Counts}
@@ -138,13 +139,13 @@ closes_with (Some x) part k h = (append_closed (x ++ part) k).0 ∙ ap (λ b. ca
 starts_with : (o : Option Bytes) (q : Received) (more : Bytes) (k : Counts) → q.start ≡ true → IsOpen o
     → ((starts o q.payload k).out ++ finish (starts o q.payload k).opened more
     ≡ finish o (if pointer_fits q then take (pointer_of q) (drop 1 q.payload) else [])
-    ++ bytes_of (if q.start && pointer_fits q then opened_in 188 q.number (drop (1 + pointer_of q) q.payload) more else []))
+    ++ bytes_of (if q.start && pointer_fits q then opened_in PACKET_LENGTH q.number (drop (1 + pointer_of q) q.payload) more else []))
     × IsOpen (starts o q.payload k).opened
 starts_with o q more k s h = go (pointer_fits q) refl where
   Claim : Type 0
   Claim = ((starts o q.payload k).out ++ finish (starts o q.payload k).opened more
       ≡ finish o (if pointer_fits q then take (pointer_of q) (drop 1 q.payload) else [])
-      ++ bytes_of (if q.start && pointer_fits q then opened_in 188 q.number (drop (1 + pointer_of q) q.payload) more else []))
+      ++ bytes_of (if q.start && pointer_fits q then opened_in PACKET_LENGTH q.number (drop (1 + pointer_of q) q.payload) more else []))
       × IsOpen (starts o q.payload k).opened
 
   go : (b : Bool) → pointer_fits q ≡ b → Claim
@@ -152,8 +153,8 @@ starts_with o q more k s h = go (pointer_fits q) refl where
   go true f =
       let part = take (pointer_of q) (drop 1 q.payload) in
       let first = closes o part k in (
-        rw (s, f, closes_with o part k h) (append_assoc (finish o part) _ _ ∙ ap (λ bs. finish o part ++ bs) (opens 188 q.number (drop (1 + pointer_of q) q.payload) more first.counts)),
-        rw f (open_keeps 188 (drop (1 + pointer_of q) q.payload) first.counts),
+        rw (s, f, closes_with o part k h) (append_assoc (finish o part) _ _ ∙ ap (λ bs. finish o part ++ bs) (opens PACKET_LENGTH q.number (drop (1 + pointer_of q) q.payload) more first.counts)),
+        rw f (open_keeps PACKET_LENGTH (drop (1 + pointer_of q) q.payload) first.counts),
       )
 
 -- what goes on in one packet, where `more` goes on after it
@@ -161,7 +162,7 @@ abbrev pub part_of : Received → Bytes → Bytes
 part_of q more = if q.start then (if pointer_fits q then take (pointer_of q) (drop 1 q.payload) else []) else q.payload ++ more
 
 abbrev pub opened_by : Received → Bytes → List Cut
-opened_by q more = if q.start && pointer_fits q then opened_in 188 q.number (drop (1 + pointer_of q) q.payload) more else []
+opened_by q more = if q.start && pointer_fits q then opened_in PACKET_LENGTH q.number (drop (1 + pointer_of q) q.payload) more else []
 
 pub acts : (o : Option Bytes) (q : Received) (more : Bytes) (k : Counts) → IsOpen o
     → ((act o k q).out ++ finish (act o k q).opened more ≡ finish o (part_of q more) ++ bytes_of (opened_by q more)) × IsOpen (act o k q).opened

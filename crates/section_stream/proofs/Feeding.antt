@@ -3,9 +3,10 @@ use Rattle.std.proofs.Common.{◌≡◌, ℕ, List, [], ◌∷◌, ◌++◌, Opt
 use Rattle.ts_packet.specs.Packets.{parse_packet}
 use Rattle.section_stream.specs.Cuts.{Bytes, candidates}
 use Rattle.section_stream.specs.declared.counts.Counts.{Counts}
-use Rattle.section_stream.specs.Rules.{Receiving, DemuxState, StandsFor, HasReceived, at_start, HasRun, step, after_all, one_more, outputs}
-use Rattle.section_stream.specs.Steps.{Gives}
-use Rattle.section_stream.specs.Kept.{with_unfinished}
+use Rattle.section_stream.specs.Rules.{Receiving, DemuxState, StandsFor, HasReceived, at_start, step, after_all, one_more}
+use Rattle.section_stream.specs.Inner.Rules.{HasRun, outputs}
+use Rattle.section_stream.specs.Inner.Steps.{Gives}
+use Rattle.section_stream.specs.Inner.Kept.{with_unfinished}
 use Rattle.section_stream.proofs.Short.{state_short, both_short, step_short}
 use Rattle.section_stream.proofs.Outputs.{pid_fed, candidates_append}
 

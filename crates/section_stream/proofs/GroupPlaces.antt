@@ -5,6 +5,7 @@ use Rattle.std.proofs.lemmas.Grind.{common_steps}
 use Rattle.std.proofs.lemmas.List.{take-append-drop, length-take-le, map-append}
 use Rattle.std.proofs.lemmas.Bool.{leb-true, leb-false}
 use Rattle.std.proofs.Math.Seq.{take-append_seam, drop-append_seam}
+use Rattle.carousel_profile.specs.declared.TheConstants.{PACKET_LENGTH}
 use Rattle.section_stream.specs.Cuts.{Bytes, Received, Cut, without_repeats, pointer_fits, going_on, whole_len, opened_in, cuts_at, cuts_of, cuts}
 use Rattle.section_stream.specs.Rules.{nothing_counted}
 use Rattle.section_stream.specs.Packing.{MuxState, IsSectionLike, with_stuffing, is_none}
@@ -27,7 +28,7 @@ opened_stuffing (suc steps) number (suc n) more = rw (or_true (suc (length {A = 
   or_true false = refl
 
 opened_whole : (steps number : ℕ) (s rest more : Bytes) → IsSectionLike s
-    → places_of (opened_in (suc steps) number (s ++ rest) more) ≡ (number, 188 - length (s ++ rest)) ∷ places_of (opened_in steps number rest more)
+    → places_of (opened_in (suc steps) number (s ++ rest) more) ≡ (number, PACKET_LENGTH - length (s ++ rest)) ∷ places_of (opened_in steps number rest more)
 opened_whole steps number s rest more h = rw (begins_whole s rest h, whole, within, drop-append_seam) refl where
   whole : whole_len ((s ++ rest) ++ more) ≡ Some (length s)
   whole = rw append_assoc (whole_is s (rest ++ more) h)
@@ -36,7 +37,7 @@ opened_whole steps number s rest more h = rw (begins_whole s rest h, whole, with
   within = grind (arith, length-append s rest)
 
 opened_part : (steps number : ℕ) (front begun x : Bytes) → IsSectionLike (front ++ begun) → 0 < length front → 0 < length begun
-    → places_of (opened_in (suc steps) number front (begun ++ x)) ≡ (number, 188 - length front) ∷ []
+    → places_of (opened_in (suc steps) number front (begun ++ x)) ≡ (number, PACKET_LENGTH - length front) ∷ []
 opened_part steps number front begun x h some more = rw (begins_one front begun h some, whole, within) refl where
   whole : whole_len (front ++ (begun ++ x)) ≡ Some (length (front ++ begun))
   whole = rw (← append_assoc) (whole_is (front ++ begun) x h)
@@ -45,7 +46,7 @@ opened_part steps number front begun x h some more = rw (begins_one front begun 
   within = grind (arith, length-append front begun, more)
 
 -- the sections that a packet begins are cut at the bytes at which they stand
-fill_places : (steps at room n number : ℕ) (ss : List Bytes) (x : Bytes) → room < steps → at + room ≡ 188 → All IsSectionLike ss → length (fill at room ss).bytes + n ≡ room
+fill_places : (steps at room n number : ℕ) (ss : List Bytes) (x : Bytes) → room < steps → at + room ≡ PACKET_LENGTH → All IsSectionLike ss → length (fill at room ss).bytes + n ≡ room
     → places_of (opened_in steps number ((fill at room ss).bytes ++ replicate n 0xFF) ((fill at room ss).begun ++ x)) ≡ map (λ o. (number, o)) (fill at room ss).offsets
 fill_places zero at room n number ss x below ends all full = absurd (omega (arith, below))
 fill_places (suc steps) at room n number [] x below ends all full = rw (opened_stuffing (suc steps) number n ([] ++ x)) refl
@@ -58,7 +59,7 @@ fill_places (suc steps) at room n number (s ∷ ss) x below ends all full =
       Claim f = length f.bytes + n ≡ room → places_of (opened_in (suc steps) number (f.bytes ++ replicate n 0xFF) (f.begun ++ x)) ≡ map (λ o. (number, o)) f.offsets
 
       Next : Type 0
-      Next = (i : ℕ) → i < steps → at + length s + i ≡ 188 → length (fill (at + length s) i ss).bytes + n ≡ i
+      Next = (i : ℕ) → i < steps → at + length s + i ≡ PACKET_LENGTH → length (fill (at + length s) i ss).bytes + n ≡ i
           → places_of (opened_in steps number ((fill (at + length s) i ss).bytes ++ replicate n 0xFF) ((fill (at + length s) i ss).begun ++ x)) ≡ map (λ o. (number, o)) (fill (at + length s) i ss).offsets
 
       no_room : Claim (record { bytes = []; begun = []; rest = s ∷ ss; offsets = [] })
@@ -73,7 +74,7 @@ fill_places (suc steps) at room n number (s ∷ ss) x below ends all full =
           let rest : places_of (opened_in steps number (f.bytes ++ replicate n 0xFF) (f.begun ++ x)) ≡ map (λ o. (number, o)) f.offsets =
           next (room - length s) (omega (arith, some, i, below)) (omega (arith, ends, i)) left in
           let here : length (s ++ (f.bytes ++ replicate n 0xFF)) ≡ room = grind (arith, common_steps, left, i) in
-          let place : 188 - length (s ++ (f.bytes ++ replicate n 0xFF)) ≡ at = omega (arith, here, ends) in
+          let place : PACKET_LENGTH - length (s ++ (f.bytes ++ replicate n 0xFF)) ≡ at = omega (arith, here, ends) in
           rw (append_assoc s f.bytes (replicate n 0xFF)) (opened_whole steps number s (f.bytes ++ replicate n 0xFF) (f.begun ++ x) h ∙ ap (λ o. (number, o) ∷ places_of (opened_in steps number (f.bytes ++ replicate n 0xFF) (f.begun ++ x))) place
           ∙ ap (λ ps. (number, at) ∷ ps) rest)
 
@@ -83,7 +84,7 @@ fill_places (suc steps) at room n number (s ∷ ss) x below ends all full =
           let none : n ≡ 0 = omega (arith, u, taken) in
           let one : IsSectionLike (take room s ++ drop room s) = rw take-append-drop h in
           let more : 0 < length (drop room s) = omega (arith, length-drop room s, i) in
-          let place : 188 - length (take room s) ≡ at = omega (arith, taken, ends) in
+          let place : PACKET_LENGTH - length (take room s) ≡ at = omega (arith, taken, ends) in
           rw (none, append-nil) (opened_part steps number (take room s) (drop room s) x one (omega (arith, taken, some)) more ∙ ap (λ o. (number, o) ∷ []) place)
 
       fits : Next → (room == 0) ≡ false → (t : Bool) → nat_le (length s) room ≡ t → Claim (fill at room (s ∷ ss))
@@ -203,10 +204,10 @@ laid_places n c begun rest qs all next = long (nat_le 184 (length begun)) refl n
       let behind : drop (1 + length begun) payload ≡ tail = ap (λ j. drop j payload) (add_one_is (length begun)) ∙ ap (drop (length begun)) apart ∙ drop-append_seam begun tail in
       let within : length f.bytes ≤ 183 - length begun = fill_length (5 + length begun) (183 - length begun) rest in
       let full : length f.bytes + k ≡ 183 - length begun = omega (arith, within, i, length-append begun f.bytes) in
-      ap (λ b. places_of (if b then opened_in 188 n (drop (1 + length begun) payload) (going_on c qs) else [])) (pointer_in begun f.bytes (replicate k 0xFF))
-      ∙ ap (λ y. places_of (opened_in 188 n y (going_on c qs))) behind
-      ∙ ap (λ y. places_of (opened_in 188 n tail y)) g.1
-      ∙ fill_places 188 (5 + length begun) (183 - length begun) k n rest g.0 (omega arith) (grind (arith, i, t)) all full where
+      ap (λ b. places_of (if b then opened_in PACKET_LENGTH n (drop (1 + length begun) payload) (going_on c qs) else [])) (pointer_in begun f.bytes (replicate k 0xFF))
+      ∙ ap (λ y. places_of (opened_in PACKET_LENGTH n y (going_on c qs))) behind
+      ∙ ap (λ y. places_of (opened_in PACKET_LENGTH n tail y)) g.1
+      ∙ fill_places PACKET_LENGTH (5 + length begun) (183 - length begun) k n rest g.0 (omega arith) (grind (arith, i, t)) all full where
         add_one_is : (j : ℕ) → 1 + j ≡ suc j
         add_one_is j = omega arith
 

@@ -7,6 +7,7 @@ use Rattle.std.proofs.lemmas.List.{take_all, drop_all, take-append-drop, length-
 use Rattle.std.proofs.lemmas.List.Sums.{sum_by-cons}
 use Rattle.std.proofs.lemmas.Bool.{cases_lt, leb-true, leb-false}
 use Rattle.std.proofs.Math.Seq.{take-append_seam, drop-append_seam}
+use Rattle.carousel_profile.specs.declared.TheConstants.{PACKET_LENGTH}
 use Rattle.section_stream.specs.declared.counts.Counts.{Counts}
 use Rattle.section_stream.specs.Cuts.{Bytes, Received, without_repeats, cuts_of, candidates}
 use Rattle.section_stream.specs.Rules.{After, Growing, Whole, as_grown, with_out, open_on, after_append, goes_on, closes, starts, up, nothing_counted}
@@ -74,7 +75,7 @@ goes_part front part begun rest k l h some more all b r =
 
 -- what a start packet's payload does, part by part
 abbrev pub behind : Bytes → After → After
-behind tail first = with_out first.out (open_on 188 tail first.counts)
+behind tail first = with_out first.out (open_on PACKET_LENGTH tail first.counts)
 
 starts_at : (o : Option Bytes) (p : ℕ) (bytes : Bytes) (k : Counts) → nat_lt p (length (p ∷ bytes)) ≡ true → starts o (p ∷ bytes) k ≡ behind (drop p bytes) (closes o (take p bytes) k)
 starts_at o p bytes k e =
@@ -249,7 +250,7 @@ leaves_last (Some front) begun rest k h all i = goes_whole front begun (replicat
 
 -- what comes before the sections that a packet opens
 abbrev pub behind_out : List Bytes → Counts → Bytes → After
-behind_out out k tail = with_out out (open_on 188 tail k)
+behind_out out k tail = with_out out (open_on PACKET_LENGTH tail k)
 
 start_does : (o : Option Bytes) (begun bytes : Bytes) (n : ℕ) (k : Counts) → IsUnderWay o begun
     → starts o (length begun ∷ ((begun ++ bytes) ++ replicate n 0xFF)) k ≡ behind_out (under_way o begun) k (bytes ++ replicate n 0xFF)
@@ -275,15 +276,15 @@ leaves_start o begun s ss k h all i = go (fill (5 + length begun) (183 - length 
       let n : ℕ = 184 - length (length begun ∷ (begun ++ f.bytes)) in
       let within : length f.bytes ≤ room = rw e (fill_length at room (s ∷ ss)) in
       let full : length f.bytes + n ≡ room = omega (arith, within, i, length-append begun f.bytes) in
-      let opens : Opens (s ∷ ss) (open_on 188 (f.bytes ++ replicate n 0xFF) k) f =
-      subst (λ (g : Filling). length g.bytes + n ≡ room → Opens (s ∷ ss) (open_on 188 (g.bytes ++ replicate n 0xFF) k) g) (sym e) (fill_opens 188 at room n (s ∷ ss) k (omega arith) all) full in
+      let opens : Opens (s ∷ ss) (open_on PACKET_LENGTH (f.bytes ++ replicate n 0xFF) k) f =
+      subst (λ (g : Filling). length g.bytes + n ≡ room → Opens (s ∷ ss) (open_on PACKET_LENGTH (g.bytes ++ replicate n 0xFF) k) g) (sym e) (fill_opens PACKET_LENGTH at room n (s ∷ ss) k (omega arith) all) full in
       let long : 12 ≤ length s = one.size.0 in
       let some : 0 < length f.bytes = rw e (fill_takes at room s ss (omega (arith, i)) (omega (arith, long))) in
       let sizes : length f.bytes + (length f.begun + sum_by length f.rest) ≡ sum_by length (s ∷ ss) = rw e (fill_sizes at room (s ∷ ss)) in
       let is : starts o (length begun ∷ ((begun ++ f.bytes) ++ replicate n 0xFF)) k ≡ behind_out (under_way o begun) k (f.bytes ++ replicate n 0xFF) = start_does o begun f.bytes n k h in
       subst (λ a. Leaves o begun (s ∷ ss) a (with_start begun f)) (sym is) (record {
         under = opens.under;
-        out = append_assoc (under_way o begun) (open_on 188 (f.bytes ++ replicate n 0xFF) k).out _ ∙ ap (λ x. under_way o begun ++ x) opens.out;
+        out = append_assoc (under_way o begun) (open_on PACKET_LENGTH (f.bytes ++ replicate n 0xFF) k).out _ ∙ ap (λ x. under_way o begun ++ x) opens.out;
         all = opens.all;
         fewer = omega (arith, some, sizes);
       })

@@ -10,7 +10,8 @@ use Rattle.std.proofs.lemmas.List.Edits.{insert_end, insert-append_right}
 use Rattle.section_stream.specs.Cuts.{Bytes}
 use Rattle.section_stream.specs.Kept.{view_bytes}
 use Rattle.section_stream.specs.Rules.{After, Growing, Oversize, Whole, as_grown, closes, goes_on, starts, up, with_out}
-use Rattle.section_stream.specs.Steps.{HasDone, HasOut, IsWhole, begun_by, bytes_of, kept_unless, open_all, section_of}
+use Rattle.section_stream.specs.Steps.{kept_unless}
+use Rattle.section_stream.specs.Inner.Steps.{HasDone, HasOut, IsWhole, begun_by, bytes_of, open_all, section_of}
 use Rattle.section_stream.specs.declared.counts.Counts.{Counts}
 use Rattle.section_stream.proofs.Completing.{more_left, more_right}
 use Rattle.section_stream.proofs.Opening.{nothing_done, starts_is, whole_bounds, whole_most}

@@ -1,10 +1,11 @@
 -- What follows unbroken on other packets is cut whole, whatever came before.
-use Rattle.std.proofs.Common.{◌≡◌, ℕ, suc, ◌+◌, ◌%◌, ◌<◌, Bool, true, false, List, [], ◌∷◌, ◌++◌, length, None, refl, sym, ◌∙◌, ap, subst, arith, append_assoc, length-append}
+use Rattle.std.proofs.Common.{◌≡◌, ℕ, suc, ◌+◌, ◌%◌, ◌<◌, Bool, true, false, List, [], ◌∷◌, ◌++◌, length, None, refl, sym, ◌∙◌, ap, subst, arith, append_assoc, length-append, ◌==◌, ◌&&◌}
 use Rattle.std.specs.List.{All, enumerate_from, filter_map, flat_map, fold}
 use Rattle.std.proofs.lemmas.List.{map-append}
 use Rattle.std.proofs.lemmas.List.Elements.{filter_map-append}
 use Rattle.ts_packet.specs.Packets.{parse_packet}
-use Rattle.section_stream.specs.Cuts.{Bytes, Received, Cut, kept_of, is_repeat, without_repeats_of, without_repeats, cuts_at, cuts_of}
+use Rattle.std.specs.Str.{bytes_eq}
+use Rattle.section_stream.specs.Cuts.{Bytes, Received, Cut, kept_of, without_repeats_of, without_repeats, cuts_at, cuts_of}
 use Rattle.section_stream.specs.Packing.{MuxState, IsSectionLike}
 use Rattle.section_stream.specs.Groups.{Laid, layout_of, packets_from, packets_of_group, packets_of_groups, past_group, LaterGroupsAreGiven}
 use Rattle.section_stream.specs.Rules.{nothing_counted}
@@ -21,8 +22,8 @@ abbrev EndsWith : Received → List Received → List Received → Type 0
 EndsWith a rs later = (front : List Received) × (without_repeats_of a rs ≡ front ++ later)
 
 one_more : (a q : Received) (rs later : List Received) → EndsWith q rs later → EndsWith a (q ∷ rs) later
-one_more a q rs later ends = by (is_repeat a q) refl where
-  by : (b : Bool) → is_repeat a q ≡ b → EndsWith a (q ∷ rs) later
+one_more a q rs later ends = by ((a.counter == q.counter) && bytes_eq a.payload q.payload) refl where
+  by : (b : Bool) → ((a.counter == q.counter) && bytes_eq a.payload q.payload) ≡ b → EndsWith a (q ∷ rs) later
   by true e = (ends.0, rw e ends.1)
   by false e = (q ∷ ends.0, rw e (ap (λ ks. q ∷ ks) ends.1))
 

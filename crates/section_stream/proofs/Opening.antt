@@ -2,9 +2,11 @@
 use Rattle.std.proofs.Common.{◌≡◌, ℕ, zero, suc, ◌+◌, ◌-◌, ◌<◌, ◌≤◌, nat_lt, Bool, true, false, List, [], ◌∷◌, ◌++◌, length, take, drop, slice_index, Option, Some, None, refl, sym, ◌∙◌, ap, subst, arith, append_assoc, append-nil, add-one, length-drop}
 use Rattle.std.proofs.lemmas.Grind.{common_steps}
 use Rattle.std.proofs.lemmas.List.{take_all}
+use Rattle.carousel_profile.specs.declared.TheConstants.{PACKET_LENGTH}
 use Rattle.section_stream.specs.Cuts.{Bytes}
 use Rattle.section_stream.specs.Rules.{After, Grown, Growing, Oversize, Whole, as_grown, with_out, open_on, closes, starts, up}
-use Rattle.section_stream.specs.Steps.{HasDone, no_section_in, open_all}
+use Rattle.section_stream.specs.Steps.{no_section_in}
+use Rattle.section_stream.specs.Inner.Steps.{HasDone, open_all}
 use Rattle.section_stream.specs.declared.counts.Counts.{Counts}
 
 pub whole_bounds : (here : Bytes) (n : ℕ) → as_grown here ≡ Whole n → (3 ≤ n) × (n ≤ length here)
@@ -38,24 +40,24 @@ nothing_done before opened c a e = record { opened = ap (λ x. x.opened) e; out 
 
 pub open-ends : (here : Bytes) (c : Counts) (before : List Bytes) → no_section_in here ≡ true → HasDone (open_all here c) None before before c
 unfolding open_all
-open-ends here c before e = nothing_done before None c (open_on 188 here c) (rw e refl)
+open-ends here c before e = nothing_done before None c (open_on PACKET_LENGTH here c) (rw e refl)
 
 pub open-growing : (here : Bytes) (c : Counts) (before : List Bytes) → no_section_in here ≡ false → as_grown here ≡ Growing → HasDone (open_all here c) (Some here) before before c
 unfolding open_all
-open-growing here c before e g = nothing_done before (Some here) c (open_on 188 here c) (rw (e, g) refl)
+open-growing here c before e g = nothing_done before (Some here) c (open_on PACKET_LENGTH here c) (rw (e, g) refl)
 
 pub open-oversize : (here : Bytes) (c : Counts) (before : List Bytes) → no_section_in here ≡ false → as_grown here ≡ Oversize → HasDone (open_all here c) None before before (record c { oversize = up c.oversize })
 unfolding open_all
-open-oversize here c before e g = nothing_done before None (record c { oversize = up c.oversize }) (open_on 188 here c) (rw (e, g) refl)
+open-oversize here c before e g = nothing_done before None (record c { oversize = up c.oversize }) (open_on PACKET_LENGTH here c) (rw (e, g) refl)
 
-pub whole_step : (here : Bytes) (c : Counts) (n : ℕ) → length here ≤ 188 → no_section_in here ≡ false → as_grown here ≡ Whole n → open_all here c ≡ with_out (take n here ∷ []) (open_all (drop n here) c)
+pub whole_step : (here : Bytes) (c : Counts) (n : ℕ) → length here ≤ PACKET_LENGTH → no_section_in here ≡ false → as_grown here ≡ Whole n → open_all here c ≡ with_out (take n here ∷ []) (open_all (drop n here) c)
 unfolding open_all
-whole_step here c n h e g = enough 188 (suc 188) here c h (omega (arith, h)) ∙ step_is where
-  step_is : open_on (suc 188) here c ≡ with_out (take n here ∷ []) (open_on 188 (drop n here) c)
+whole_step here c n h e g = enough PACKET_LENGTH (suc PACKET_LENGTH) here c h (omega (arith, h)) ∙ step_is where
+  step_is : open_on (suc PACKET_LENGTH) here c ≡ with_out (take n here ∷ []) (open_on PACKET_LENGTH (drop n here) c)
   step_is = rw (e, g) refl
 
 pub open-whole : (here : Bytes) (c : Counts) (n : ℕ) (rest : Bytes) (left : Option Bytes) (before more candidates : List Bytes) (counts : Counts)
-    → length here ≤ 188 → no_section_in here ≡ false → as_grown here ≡ Whole n → rest ≡ drop n here → more ≡ before ++ take n here ∷ []
+    → length here ≤ PACKET_LENGTH → no_section_in here ≡ false → as_grown here ≡ Whole n → rest ≡ drop n here → more ≡ before ++ take n here ∷ []
     → HasDone (open_all rest c) left more candidates counts → HasDone (open_all here c) left before candidates counts
 open-whole here c n rest left before more candidates counts h e g r m d =
     let is : open_all here c ≡ with_out (take n here ∷ []) (open_all rest c) = whole_step here c n h e g ∙ ap (λ x. with_out (take n here ∷ []) (open_all x c)) (sym r) in
@@ -82,7 +84,7 @@ pub starts_is : (o : Option Bytes) (payload : Bytes) (c : Counts) (p : ℕ) → 
 unfolding open_all
 starts_is o payload c p e h = subst Claim (sym e) at_pointer where
   Claim : ℕ → Type 0
-  Claim q = starts o payload c ≡ with_out (closes o (take q (drop 1 payload)) c).out (open_on 188 (drop (1 + q) payload) (closes o (take q (drop 1 payload)) c).counts)
+  Claim q = starts o payload c ≡ with_out (closes o (take q (drop 1 payload)) c).out (open_on PACKET_LENGTH (drop (1 + q) payload) (closes o (take q (drop 1 payload)) c).counts)
 
   fits : nat_lt (slice_index payload 0) (length payload) ≡ true
   fits = grind (arith, e, h)

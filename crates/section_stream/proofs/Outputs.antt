@@ -7,8 +7,9 @@ use Rattle.std.proofs.lemmas.List.{map-append}
 use Rattle.std.proofs.lemmas.Slice.Eq.{bytes_eq-Decides}
 use Rattle.ts_packet.specs.Packets.{Fields, parse_packet}
 use Rattle.ts_packet.specs.declared.PacketFault.{PacketFault}
-use Rattle.section_stream.specs.Cuts.{Bytes, Received, kept_of, is_repeat, without_repeats_of, without_repeats, going_on, cuts_at, cuts_of, candidates}
-use Rattle.section_stream.specs.Rules.{Receiving, step, after_packet, with_counts, keeps, starts, goes_on, up, one_more, is_last, jumps_from, at_start, after_all, outputs}
+use Rattle.section_stream.specs.Cuts.{Bytes, Received, kept_of, without_repeats_of, without_repeats, going_on, cuts_at, cuts_of, candidates}
+use Rattle.section_stream.specs.Rules.{Receiving, step, after_packet, with_counts, keeps, starts, goes_on, up, one_more, is_last, jumps_from, at_start, after_all}
+use Rattle.section_stream.specs.Inner.Rules.{outputs}
 use Rattle.section_stream.specs.declared.counts.Counts.{Counts}
 use Rattle.section_stream.proofs.Cutting.{IsOpen, finish, finish_nothing, bytes_of, act, acts, onto}
 
@@ -63,7 +64,7 @@ Goes s a next rest = (b : Received) × IsLast next.0 b × ((rs : List Received) 
 quiet : (s : Receiving) (a : Received) (k : Counts) → IsLast s a → Goes s a (record s { counts = k }, []) []
 quiet s a k h = (a, record { last = h.last; opened = h.opened }, λ rs ys is. is)
 
-repeated : (s : Receiving) (a q : Received) (k : Counts) → IsLast s a → is_repeat a q ≡ true → Goes s a (record s { counts = k }, []) (q ∷ [])
+repeated : (s : Receiving) (a q : Received) (k : Counts) → IsLast s a → ((a.counter == q.counter) && bytes_eq a.payload q.payload) ≡ true → Goes s a (record s { counts = k }, []) (q ∷ [])
 repeated s a q k h r =
     let same = both (a.counter == q.counter) (bytes_eq a.payload q.payload) r in
     let counters = same_number_is a.counter q.counter same.0 in
@@ -83,7 +84,7 @@ taken_state s k t q = (
   (act (if not t then None else s.opened) k q).out,
 )
 
-takes_it : (s : Receiving) (a q : Received) (k : Counts) (t : Bool) → IsLast s a → is_repeat a q ≡ false → (q.counter == (a.counter + 1) % 16) ≡ t → Goes s a (taken_state s k t q) (q ∷ [])
+takes_it : (s : Receiving) (a q : Received) (k : Counts) (t : Bool) → IsLast s a → ((a.counter == q.counter) && bytes_eq a.payload q.payload) ≡ false → (q.counter == (a.counter + 1) % 16) ≡ t → Goes s a (taken_state s k t q) (q ∷ [])
 takes_it s a q k t h r is_t = (
   q,
   record { last = refl; opened = still_open s.opened k q h.opened t },
@@ -114,7 +115,7 @@ fed_by s f p l d j =
 abbrev pub kept_by : ℕ → Fields → Bool → Bool → Option Received
 kept_by n f p l = if p && not l then Some (received_as n f) else None
 
-by_tests : (s : Receiving) (a : Received) (n : ℕ) (f : Fields) (h : IsLast s a) (p l d j : Bool) → is_repeat a (received_as n f) ≡ d → not (f.counter == (a.counter + 1) % 16) ≡ j
+by_tests : (s : Receiving) (a : Received) (n : ℕ) (f : Fields) (h : IsLast s a) (p l d j : Bool) → ((a.counter == (received_as n f).counter) && bytes_eq a.payload (received_as n f).payload) ≡ d → not (f.counter == (a.counter + 1) % 16) ≡ j
     → Goes s a (fed_by (one_more s) f p l d j) (cons_option (kept_by n f p l) [])
 by_tests s a n f h false l d j r i = quiet s a _ h
 by_tests s a n f h true true d j r i = quiet s a _ h

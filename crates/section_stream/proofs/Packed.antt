@@ -1,8 +1,9 @@
 -- Packets that are built and received, and that none of them repeats the one before it.
-use Rattle.std.proofs.Common.{◌≡◌, ℕ, zero, suc, ◌+◌, ◌%◌, ◌<◌, Bool, true, false, ◌==◌, List, [], ◌∷◌, length, Some, Ok, refl, sym, ◌∙◌, ap, subst, arith}
+use Rattle.std.proofs.Common.{◌≡◌, ℕ, zero, suc, ◌+◌, ◌%◌, ◌<◌, Bool, true, false, ◌==◌, List, [], ◌∷◌, length, Some, Ok, refl, sym, ◌∙◌, ap, subst, arith, ◌&&◌}
 use Rattle.std.proofs.lemmas.Grind.{common_steps}
 use Rattle.ts_packet.specs.Packets.{parse_packet, packet_bytes}
-use Rattle.section_stream.specs.Cuts.{Bytes, Received, kept_of, is_repeat, without_repeats_of, without_repeats}
+use Rattle.std.specs.Str.{bytes_eq}
+use Rattle.section_stream.specs.Cuts.{Bytes, Received, kept_of, without_repeats_of, without_repeats}
 use Rattle.section_stream.specs.Packing.{with_stuffing}
 
 -- ---- what is received
@@ -32,7 +33,7 @@ abbrev pub Follow : ℕ → List Received → Type 0
 Follow c [] = Unit {0}
 Follow c (q ∷ qs) = (q.counter ≡ c) × Follow ((c + 1) % 16) qs
 
-no_repeat : (a q : Received) → q.counter ≡ (a.counter + 1) % 16 → is_repeat a q ≡ false
+no_repeat : (a q : Received) → q.counter ≡ (a.counter + 1) % 16 → ((a.counter == q.counter) && bytes_eq a.payload q.payload) ≡ false
 no_repeat a q e = rw other refl where
   other : (a.counter == q.counter) ≡ false
   other = grind (arith, e)

@@ -8,9 +8,11 @@ use Rattle.std.proofs.lemmas.List.{map-append, length-map, get_or-map, length-ta
 use Rattle.std.proofs.lemmas.List.Elements.{All-nil, All-cons, All-append, All-head, All-tail}
 use Rattle.std.proofs.lemmas.Option.{same_Some}
 use Rattle.std.proofs.Common.{length-drop, drop-drop}
+use Rattle.carousel_profile.specs.declared.TheConstants.{PACKET_LENGTH}
 use Rattle.ts_packet.specs.Packets.{Fields, parse_packet}
 use Rattle.ts_packet.specs.declared.PacketFault.{PacketFault}
-use Rattle.section_stream.specs.Cuts.{Bytes, Cut, Received, kept_of, payloads_in, is_repeat, without_repeats_of, without_repeats, whole_len, opened_in, cuts_at, cuts_of, cuts, going_on, pointer_fits, pointer_of}
+use Rattle.std.specs.Str.{bytes_eq}
+use Rattle.section_stream.specs.Cuts.{Bytes, Cut, Received, kept_of, payloads_in, without_repeats_of, without_repeats, whole_len, opened_in, cuts_at, cuts_of, cuts, going_on, pointer_fits, pointer_of}
 use Rattle.section_stream.specs.Laws.{IsBefore, StandsThere, CutsComeInOrder}
 
 -- ---- numbers that rise by e or more from each to the next
@@ -56,7 +58,7 @@ received_rise pid n (p ∷ ps) = go (kept_of pid n (parse_packet p)) refl (recei
 
 once_from : (a : Received) (bs : List Received) (lo : ℕ) → Rises 1 lo (map (λ r. r.number) bs) → Rises 1 lo (map (λ r. r.number) (without_repeats_of a bs))
 once_from a [] lo r = tt
-once_from a (b ∷ bs) lo r = go (is_repeat a b) (once_from b bs (b.number + 1) r.1) where
+once_from a (b ∷ bs) lo r = go ((a.counter == b.counter) && bytes_eq a.payload b.payload) (once_from b bs (b.number + 1) r.1) where
   go : (t : Bool) → Rises 1 (b.number + 1) (map (λ r. r.number) (without_repeats_of b bs)) → Rises 1 lo (map (λ r. r.number) (cond t (without_repeats_of b bs) (b ∷ without_repeats_of b bs)))
   go true rest = lower 1 lo (b.number + 1) (omega (arith, r.0)) _ rest
   go false rest = (r.0, rest)
@@ -68,7 +70,7 @@ once (a ∷ bs) lo r = (r.0, once_from a bs (a.number + 1) r.1)
 -- what holds of each packet that was received holds of those that are left
 kept_from : (P : Received → Type 0) (a : Received) (bs : List Received) → All P bs → All P (without_repeats_of a bs)
 kept_from P a [] all = All-nil P
-kept_from P a (b ∷ bs) all = go (is_repeat a b) (kept_from P b bs (All-tail P b bs all)) where
+kept_from P a (b ∷ bs) all = go ((a.counter == b.counter) && bytes_eq a.payload b.payload) (kept_from P b bs (All-tail P b bs all)) where
   go : (t : Bool) → All P (without_repeats_of b bs) → All P (cond t (without_repeats_of b bs) (b ∷ without_repeats_of b bs))
   go true rest = rest
   go false rest = All-cons P b (without_repeats_of b bs) (All-head P b bs all) rest
@@ -85,7 +87,7 @@ key c = c.packet * 189 + c.offset
 
 -- bytes rise by e where a packet has no more than 188 of them, or by nothing
 abbrev pub IsStep : ℕ → ℕ → Type 0
-IsStep e len = (e ≡ 0) ⊎ ((e ≡ 1) × (len ≤ 188))
+IsStep e len = (e ≡ 0) ⊎ ((e ≡ 1) × (len ≤ PACKET_LENGTH))
 
 fewer : (e a b : ℕ) → b ≤ a → IsStep e a → IsStep e b
 fewer e a b le (inl z) = inl z
@@ -95,33 +97,33 @@ step_most : (e len : ℕ) → IsStep e len → e ≤ 1
 step_most e len (inl z) = omega (arith, z)
 step_most e len (inr x) = omega (arith, x.0)
 
-rise_by : (e len n : ℕ) → IsStep e len → 3 ≤ n → n ≤ len → 188 - len + e ≤ 188 - (len - n)
+rise_by : (e len n : ℕ) → IsStep e len → 3 ≤ n → n ≤ len → PACKET_LENGTH - len + e ≤ PACKET_LENGTH - (len - n)
 rise_by e len n (inl z) three le = omega (arith, z, three, le)
-rise_by e len n (inr x) three le = let one : e ≡ 1 = x.0 in let short : len ≤ 188 = x.1 in omega (arith, one, short, three, le)
+rise_by e len n (inr x) three le = let one : e ≡ 1 = x.0 in let short : len ≤ PACKET_LENGTH = x.1 in omega (arith, one, short, three, le)
 
 three_at_least : (bytes : Bytes) (n : ℕ) → whole_len bytes ≡ Some n → (3 ≤ n) × (n ≤ length bytes)
 three_at_least bytes n e = (grind (arith, common_steps, e), grind (arith, common_steps, e))
 
 opened_rise : (e steps number : ℕ) (here later : Bytes) (rest : List ℕ) → IsStep e (length here) → Rises e ((number + 1) * 189) rest
-    → Rises e (number * 189 + (188 - length here)) (map key (opened_in steps number here later) ++ rest)
+    → Rises e (number * 189 + (PACKET_LENGTH - length here)) (map key (opened_in steps number here later) ++ rest)
 opened_rise e zero number here later rest st r = lower e _ ((number + 1) * 189) (omega arith) rest r
 opened_rise e (suc steps) number here later rest st r =
     by ((length here == 0) || (slice_index here 0 == 0xFF)) (whole_len (here ++ later)) refl refl
     (λ n. opened_rise e steps number (drop n here) later rest (fewer e (length here) (length (drop n here)) (omega (arith, length-drop n here)) st) r) where
-      none : Rises e (number * 189 + (188 - length here)) rest
-      none = lower e (number * 189 + (188 - length here)) ((number + 1) * 189) (omega arith) rest r
+      none : Rises e (number * 189 + (PACKET_LENGTH - length here)) rest
+      none = lower e (number * 189 + (PACKET_LENGTH - length here)) ((number + 1) * 189) (omega arith) rest r
 
-      next : (n : ℕ) (t : Bool) → nat_le n (length here) ≡ t → 3 ≤ n → Rises e (number * 189 + (188 - length (drop n here))) (map key (opened_in steps number (drop n here) later) ++ rest)
-          → Rises e (number * 189 + (188 - length here) + e) (map key (cond t (opened_in steps number (drop n here) later) []) ++ rest)
+      next : (n : ℕ) (t : Bool) → nat_le n (length here) ≡ t → 3 ≤ n → Rises e (number * 189 + (PACKET_LENGTH - length (drop n here))) (map key (opened_in steps number (drop n here) later) ++ rest)
+          → Rises e (number * 189 + (PACKET_LENGTH - length here) + e) (map key (cond t (opened_in steps number (drop n here) later) []) ++ rest)
       next n true h three more =
           let le : n ≤ length here = grind (arith, h) in
           let on = rise_by e (length here) n st three le in
-          lower e _ (number * 189 + (188 - length (drop n here))) (omega (arith, on, length-drop n here)) _ more
+          lower e _ (number * 189 + (PACKET_LENGTH - length (drop n here))) (omega (arith, on, length-drop n here)) _ more
       next n false h three more = let most = step_most e (length here) st in lower e _ ((number + 1) * 189) (omega (arith, most)) rest r
 
       by : (t : Bool) (o : Option ℕ) → ((length here == 0) || (slice_index here 0 == 0xFF)) ≡ t → whole_len (here ++ later) ≡ o
-          → ((n : ℕ) → Rises e (number * 189 + (188 - length (drop n here))) (map key (opened_in steps number (drop n here) later) ++ rest))
-          → Rises e (number * 189 + (188 - length here)) (map key (opened_in (suc steps) number here later) ++ rest)
+          → ((n : ℕ) → Rises e (number * 189 + (PACKET_LENGTH - length (drop n here))) (map key (opened_in steps number (drop n here) later) ++ rest))
+          → Rises e (number * 189 + (PACKET_LENGTH - length here)) (map key (opened_in (suc steps) number here later) ++ rest)
       by true o t f more = rw t none
       by false None t f more = rw (t, f) none
       by false (Some n) t f more = rw (t, f) (omega arith, next n (nat_le n (length here)) refl (three_at_least (here ++ later) n f).0 (more n))
@@ -129,10 +131,10 @@ opened_rise e (suc steps) number here later rest st r =
 at_rise : (e : ℕ) (p : Received) (later : List Received) (rest : List ℕ) → IsStep e (length p.payload) → Rises e ((p.number + 1) * 189) rest
     → Rises e (p.number * 189) (map key (cuts_at p later) ++ rest)
 at_rise e p later rest st r = go (p.start && pointer_fits p) where
-  go : (t : Bool) → Rises e (p.number * 189) (map key (cond t (opened_in 188 p.number (drop (1 + pointer_of p) p.payload) (going_on p.counter later)) []) ++ rest)
+  go : (t : Bool) → Rises e (p.number * 189) (map key (cond t (opened_in PACKET_LENGTH p.number (drop (1 + pointer_of p) p.payload) (going_on p.counter later)) []) ++ rest)
   go true =
       lower e (p.number * 189) _ (omega arith) _
-      (opened_rise e 188 p.number (drop (1 + pointer_of p) p.payload) (going_on p.counter later) rest
+      (opened_rise e PACKET_LENGTH p.number (drop (1 + pointer_of p) p.payload) (going_on p.counter later) rest
       (fewer e (length p.payload) (length (drop (1 + pointer_of p) p.payload)) (omega (arith, length-drop (1 + pointer_of p) p.payload)) st) r)
   go false = lower e (p.number * 189) ((p.number + 1) * 189) (omega arith) rest r
 
@@ -146,26 +148,26 @@ cuts_rise e (p ∷ ps) lo r all =
 
 -- ---- bytes of at most 188
 
-opened_small : (steps number : ℕ) (here later : Bytes) → All (λ c. c.offset ≤ 188) (opened_in steps number here later)
-opened_small zero number here later = All-nil (λ c. c.offset ≤ 188)
+opened_small : (steps number : ℕ) (here later : Bytes) → All (λ c. c.offset ≤ PACKET_LENGTH) (opened_in steps number here later)
+opened_small zero number here later = All-nil (λ c. c.offset ≤ PACKET_LENGTH)
 opened_small (suc steps) number here later = by ((length here == 0) || (slice_index here 0 == 0xFF)) (whole_len (here ++ later)) refl refl (λ n. opened_small steps number (drop n here) later) where
-  next : (n : ℕ) (t : Bool) → All (λ c. c.offset ≤ 188) (opened_in steps number (drop n here) later) → All (λ c. c.offset ≤ 188) (cond t (opened_in steps number (drop n here) later) [])
+  next : (n : ℕ) (t : Bool) → All (λ c. c.offset ≤ PACKET_LENGTH) (opened_in steps number (drop n here) later) → All (λ c. c.offset ≤ PACKET_LENGTH) (cond t (opened_in steps number (drop n here) later) [])
   next n true more = more
-  next n false more = All-nil (λ c. c.offset ≤ 188)
+  next n false more = All-nil (λ c. c.offset ≤ PACKET_LENGTH)
 
   by : (t : Bool) (o : Option ℕ) → ((length here == 0) || (slice_index here 0 == 0xFF)) ≡ t → whole_len (here ++ later) ≡ o
-      → ((n : ℕ) → All (λ c. c.offset ≤ 188) (opened_in steps number (drop n here) later)) → All (λ c. c.offset ≤ 188) (opened_in (suc steps) number here later)
-  by true o t f more = rw t (All-nil (λ c. c.offset ≤ 188))
-  by false None t f more = rw (t, f) (All-nil (λ c. c.offset ≤ 188))
-  by false (Some n) t f more = rw (t, f) (All-cons (λ c. c.offset ≤ 188) (record { packet = number; offset = 188 - length here; bytes = take n (here ++ later) })
+      → ((n : ℕ) → All (λ c. c.offset ≤ PACKET_LENGTH) (opened_in steps number (drop n here) later)) → All (λ c. c.offset ≤ PACKET_LENGTH) (opened_in (suc steps) number here later)
+  by true o t f more = rw t (All-nil (λ c. c.offset ≤ PACKET_LENGTH))
+  by false None t f more = rw (t, f) (All-nil (λ c. c.offset ≤ PACKET_LENGTH))
+  by false (Some n) t f more = rw (t, f) (All-cons (λ c. c.offset ≤ PACKET_LENGTH) (record { packet = number; offset = PACKET_LENGTH - length here; bytes = take n (here ++ later) })
       (cond (nat_le n (length here)) (opened_in steps number (drop n here) later) []) (omega arith) (next n (nat_le n (length here)) (more n)))
 
-cuts_small : (rs : List Received) → All (λ c. c.offset ≤ 188) (cuts_of rs)
-cuts_small [] = All-nil (λ c. c.offset ≤ 188)
-cuts_small (p ∷ ps) = All-append (λ c. c.offset ≤ 188) (cuts_at p ps) (cuts_of ps) (go (p.start && pointer_fits p)) (cuts_small ps) where
-  go : (t : Bool) → All (λ c. c.offset ≤ 188) (cond t (opened_in 188 p.number (drop (1 + pointer_of p) p.payload) (going_on p.counter ps)) [])
-  go true = opened_small 188 p.number (drop (1 + pointer_of p) p.payload) (going_on p.counter ps)
-  go false = All-nil (λ c. c.offset ≤ 188)
+cuts_small : (rs : List Received) → All (λ c. c.offset ≤ PACKET_LENGTH) (cuts_of rs)
+cuts_small [] = All-nil (λ c. c.offset ≤ PACKET_LENGTH)
+cuts_small (p ∷ ps) = All-append (λ c. c.offset ≤ PACKET_LENGTH) (cuts_at p ps) (cuts_of ps) (go (p.start && pointer_fits p)) (cuts_small ps) where
+  go : (t : Bool) → All (λ c. c.offset ≤ PACKET_LENGTH) (cond t (opened_in PACKET_LENGTH p.number (drop (1 + pointer_of p) p.payload) (going_on p.counter ps)) [])
+  go true = opened_small PACKET_LENGTH p.number (drop (1 + pointer_of p) p.payload) (going_on p.counter ps)
+  go false = All-nil (λ c. c.offset ≤ PACKET_LENGTH)
 
 -- ---- in order
 
@@ -183,22 +185,22 @@ key_at e pid packets all i j d lt inside =
 pub packets-rise : (pid : ℕ) (packets : List Bytes) → AllPairs (λ c d. c.packet ≤ d.packet) (cuts pid packets)
 packets-rise pid packets i j d lt inside =
     let up = key_at 0 pid packets (λ k r below. inl refl) i j d lt inside in
-    let small : (get_or (cuts pid packets) j d).offset ≤ 188 = cuts_small (without_repeats (payloads_in pid packets)) j d inside in
+    let small : (get_or (cuts pid packets) j d).offset ≤ PACKET_LENGTH = cuts_small (without_repeats (payloads_in pid packets)) j d inside in
     omega (arith, up, small)
 
 -- ---- packets of 188 bytes
 
-pub payload_short : (bytes : Bytes) → length bytes ≡ 188 → (p : Fields) → parse_packet bytes ≡ Ok p → (p.payload ≡ drop (188 - length p.payload) bytes) × (length p.payload ≤ 188)
+pub payload_short : (bytes : Bytes) → length bytes ≡ PACKET_LENGTH → (p : Fields) → parse_packet bytes ≡ Ok p → (p.payload ≡ drop (PACKET_LENGTH - length p.payload) bytes) × (length p.payload ≤ PACKET_LENGTH)
 payload_short bytes size p e = grind (arith, common_steps, e, size)
 
 -- a received packet is one of these, and its payload is the packet's last bytes
 pub record IsOf (packets : List Bytes) (r : Received) : Type 0 where
   pub packet : Bytes
   pub there : slice_get packets r.number ≡ Some packet
-  pub last : r.payload ≡ drop (188 - length r.payload) packet
-  pub short : length r.payload ≤ 188
+  pub last : r.payload ≡ drop (PACKET_LENGTH - length r.payload) packet
+  pub short : length r.payload ≤ PACKET_LENGTH
 
-kept_is : (packets : List Bytes) (pid n : ℕ) (bytes : Bytes) → slice_get packets n ≡ Some bytes → length bytes ≡ 188 → (r : Result Fields PacketFault) → parse_packet bytes ≡ r
+kept_is : (packets : List Bytes) (pid n : ℕ) (bytes : Bytes) → slice_get packets n ≡ Some bytes → length bytes ≡ PACKET_LENGTH → (r : Result Fields PacketFault) → parse_packet bytes ≡ r
     → (x : Received) → kept_of pid n r ≡ Some x → IsOf packets x
 kept_is packets pid n bytes there size (Err f) e x k = cc
 kept_is packets pid n bytes there size (Ok p) e x k = go ((p.pid == pid) && not (length p.payload == 0)) k where
@@ -209,19 +211,19 @@ kept_is packets pid n bytes there size (Ok p) e x k = go ((p.pid == pid) && not 
   go true h = subst (IsOf packets) (same_Some _ x h) is
   go false h = cc
 
-received_of : (packets : List Bytes) (pid n : ℕ) (ps : List Bytes) → ((k : ℕ) → slice_get packets (n + k) ≡ slice_get ps k) → All (λ p. length p ≡ 188) ps
+received_of : (packets : List Bytes) (pid n : ℕ) (ps : List Bytes) → ((k : ℕ) → slice_get packets (n + k) ≡ slice_get ps k) → All (λ p. length p ≡ PACKET_LENGTH) ps
     → All (IsOf packets) (filter_map (λ x. kept_of pid x.0 (parse_packet x.1)) (enumerate_from n ps))
 received_of packets pid n [] are sized = All-nil (IsOf packets)
 received_of packets pid n (p ∷ ps) are sized =
     go (kept_of pid n (parse_packet p)) refl
-    (received_of packets pid (n + 1) ps (λ k. ap (slice_get packets) (omega arith) ∙ are (suc k)) (All-tail (λ p. length p ≡ 188) p ps sized)) where
+    (received_of packets pid (n + 1) ps (λ k. ap (slice_get packets) (omega arith) ∙ are (suc k)) (All-tail (λ p. length p ≡ PACKET_LENGTH) p ps sized)) where
       here : slice_get packets n ≡ Some p
       here = ap (slice_get packets) (omega arith) ∙ are 0
 
       go : (o : Option Received) → kept_of pid n (parse_packet p) ≡ o → All (IsOf packets) (filter_map (λ x. kept_of pid x.0 (parse_packet x.1)) (enumerate_from (n + 1) ps))
           → All (IsOf packets) (cons_option o (filter_map (λ x. kept_of pid x.0 (parse_packet x.1)) (enumerate_from (n + 1) ps)))
       go None e rest = rest
-      go (Some x) e rest = All-cons (IsOf packets) x _ (kept_is packets pid n p here (All-head (λ p. length p ≡ 188) p ps sized) (parse_packet p) refl x e) rest
+      go (Some x) e rest = All-cons (IsOf packets) x _ (kept_is packets pid n p here (All-head (λ p. length p ≡ PACKET_LENGTH) p ps sized) (parse_packet p) refl x e) rest
 
 -- ---- each stands where its place says
 
@@ -235,24 +237,24 @@ take_twice (suc n) (x ∷ xs) later = ap (λ ys. x ∷ ys) (take_twice n xs late
 pub record IsLastOf (packets : List Bytes) (number : ℕ) (here : Bytes) : Type 0 where
   pub packet : Bytes
   pub there : slice_get packets number ≡ Some packet
-  pub last : here ≡ drop (188 - length here) packet
-  pub short : length here ≤ 188
+  pub last : here ≡ drop (PACKET_LENGTH - length here) packet
+  pub short : length here ≤ PACKET_LENGTH
 
 further : (packets : List Bytes) (number n : ℕ) (here : Bytes) → n ≤ length here → IsLastOf packets number here → IsLastOf packets number (drop n here)
 further packets number n here le is = record {
   packet = is.packet;
   there = is.there;
-  last = ap (drop n) is.last ∙ drop-drop n (188 - length here) is.packet ∙ ap (λ k. drop k is.packet) (omega (arith, le, is.short, length-drop n here));
+  last = ap (drop n) is.last ∙ drop-drop n (PACKET_LENGTH - length here) is.packet ∙ ap (λ k. drop k is.packet) (omega (arith, le, is.short, length-drop n here));
   short = omega (arith, is.short, length-drop n here);
 }
 
 stands : (packets : List Bytes) (number n : ℕ) (here later : Bytes) → n ≤ length (here ++ later) → IsLastOf packets number here
-    → StandsThere packets (record { packet = number; offset = 188 - length here; bytes = take n (here ++ later) })
+    → StandsThere packets (record { packet = number; offset = PACKET_LENGTH - length here; bytes = take n (here ++ later) })
 stands packets number n here later le is = record {
   packet = is.packet;
   there = is.there;
   begins =
-      ap (λ k. take k (drop (188 - length here) is.packet)) (length-take-le n (here ++ later) le)
+      ap (λ k. take k (drop (PACKET_LENGTH - length here) is.packet)) (length-take-le n (here ++ later) le)
       ∙ ap (take n) (sym is.last)
       ∙ take_twice n here later
       ∙ ap (λ k. take k (take n (here ++ later))) (omega (arith, is.short));
@@ -271,7 +273,7 @@ opened_stand packets (suc steps) number here later is =
           → ((n : ℕ) → n ≤ length here → All (StandsThere packets) (opened_in steps number (drop n here) later)) → All (StandsThere packets) (opened_in (suc steps) number here later)
       by true o t f more = rw t (All-nil (StandsThere packets))
       by false None t f more = rw (t, f) (All-nil (StandsThere packets))
-      by false (Some n) t f more = rw (t, f) (All-cons (StandsThere packets) (record { packet = number; offset = 188 - length here; bytes = take n (here ++ later) })
+      by false (Some n) t f more = rw (t, f) (All-cons (StandsThere packets) (record { packet = number; offset = PACKET_LENGTH - length here; bytes = take n (here ++ later) })
           (cond (nat_le n (length here)) (opened_in steps number (drop n here) later) []) (stands packets number n here later (three_at_least (here ++ later) n f).1 is)
           (next n (nat_le n (length here)) refl (more n)))
 
@@ -285,10 +287,10 @@ cuts_stand packets (p ∷ ps) all =
       here : IsLastOf packets p.number p.payload
       here = record { packet = is.packet; there = is.there; last = is.last; short = is.short }
 
-      go : (t : Bool) → (p.start && pointer_fits p) ≡ t → All (StandsThere packets) (cond t (opened_in 188 p.number (drop (1 + pointer_of p) p.payload) (going_on p.counter ps)) [])
+      go : (t : Bool) → (p.start && pointer_fits p) ≡ t → All (StandsThere packets) (cond t (opened_in PACKET_LENGTH p.number (drop (1 + pointer_of p) p.payload) (going_on p.counter ps)) [])
       go true e =
           let fits : pointer_of p < length p.payload = ltb-true _ _ (and_parts p.start (pointer_fits p) e).1 in
-          opened_stand packets 188 p.number (drop (1 + pointer_of p) p.payload) (going_on p.counter ps) (further packets p.number (1 + pointer_of p) p.payload (omega (arith, fits)) here)
+          opened_stand packets PACKET_LENGTH p.number (drop (1 + pointer_of p) p.payload) (going_on p.counter ps) (further packets p.number (1 + pointer_of p) p.payload (omega (arith, fits)) here)
       go false e = All-nil (StandsThere packets)
 
 from_none : (packets : List Bytes) (k : ℕ) → slice_get packets (0 + k) ≡ slice_get packets k
@@ -297,13 +299,13 @@ from_none packets k = let same : 0 + k ≡ k = omega arith in ap (slice_get pack
 short_steps : (packets : List Bytes) (rs : List Received) → All (IsOf packets) rs → All (λ r. IsStep 1 (length r.payload)) rs
 short_steps packets rs all k d below = inr (refl, (all k d below).short)
 
-in_order : (pid : ℕ) (packets : List Bytes) → All (λ p. length p ≡ 188) packets → AllPairs IsBefore (cuts pid packets)
+in_order : (pid : ℕ) (packets : List Bytes) → All (λ p. length p ≡ PACKET_LENGTH) packets → AllPairs IsBefore (cuts pid packets)
 in_order pid packets sized i j d lt inside =
     let up = key_at 1 pid packets (short_steps packets (payloads_in pid packets) (received_of packets pid 0 packets (from_none packets) sized)) i j d lt inside in
-    let a : (get_or (cuts pid packets) i d).offset ≤ 188 = cuts_small (without_repeats (payloads_in pid packets)) i d (omega (arith, lt, inside)) in
-    let b : (get_or (cuts pid packets) j d).offset ≤ 188 = cuts_small (without_repeats (payloads_in pid packets)) j d inside in
+    let a : (get_or (cuts pid packets) i d).offset ≤ PACKET_LENGTH = cuts_small (without_repeats (payloads_in pid packets)) i d (omega (arith, lt, inside)) in
+    let b : (get_or (cuts pid packets) j d).offset ≤ PACKET_LENGTH = cuts_small (without_repeats (payloads_in pid packets)) j d inside in
     by (get_or (cuts pid packets) i d) (get_or (cuts pid packets) j d) up a b (nat_lt (get_or (cuts pid packets) i d).packet (get_or (cuts pid packets) j d).packet) refl where
-      by : (c e : Cut) → key c + 1 ≤ key e → c.offset ≤ 188 → e.offset ≤ 188 → (t : Bool) → nat_lt c.packet e.packet ≡ t → IsBefore c e
+      by : (c e : Cut) → key c + 1 ≤ key e → c.offset ≤ PACKET_LENGTH → e.offset ≤ PACKET_LENGTH → (t : Bool) → nat_lt c.packet e.packet ≡ t → IsBefore c e
       by c e up a b true t = inl (ltb-true c.packet e.packet t)
       by c e up a b false t = let ge : e.packet ≤ c.packet = grind (arith, t) in inr (omega (arith, up, a, b, ge), omega (arith, up, a, b, ge))
 

@@ -1,5 +1,6 @@
 -- Whatever the count of short tails is, the rules give the same.
 use Rattle.std.proofs.Common.{◌≡◌, ℕ, zero, suc, ◌+◌, Bool, true, false, ◌||◌, ◌==◌, nat_lt, List, [], ◌∷◌, ◌++◌, length, take, drop, slice_index, Option, Some, None, Result, Ok, Err, cond, refl, ◌∙◌, ap}
+use Rattle.carousel_profile.specs.declared.TheConstants.{PACKET_LENGTH}
 use Rattle.ts_packet.specs.Packets.{Fields, parse_packet}
 use Rattle.ts_packet.specs.declared.PacketFault.{PacketFault}
 use Rattle.ts_packet.specs.declared.PacketFault.TheVariants.{NoSync, Errored, Scrambled, Reserved, BadField}
@@ -53,7 +54,7 @@ starts_by : (k : ℕ) (o : Option Bytes) (payload : Bytes) (c : Counts) (t : Boo
     → starts o payload (short k c) ≡ after_short k (starts o payload c)
 starts_by k o payload c true e =
     let p = slice_index payload 0 in
-    rw e (ap (behind 188 (drop (1 + p) payload)) (closes_short k o (take p (drop 1 payload)) c) ∙ behind_short k 188 (drop (1 + p) payload) (closes o (take p (drop 1 payload)) c))
+    rw e (ap (behind PACKET_LENGTH (drop (1 + p) payload)) (closes_short k o (take p (drop 1 payload)) c) ∙ behind_short k PACKET_LENGTH (drop (1 + p) payload) (closes o (take p (drop 1 payload)) c))
 starts_by k o payload c false e = rw e refl
 
 starts_short : (k : ℕ) (o : Option Bytes) (payload : Bytes) (c : Counts) → starts o payload (short k c) ≡ after_short k (starts o payload c)

@@ -3,7 +3,8 @@ use Rattle.std.proofs.Common.{◌≡◌, ℕ, Bool, true, false, List, Option, S
 use Rattle.ts_packet.specs.Packets.{Fields}
 use Rattle.section_stream.specs.Cuts.{Bytes}
 use Rattle.section_stream.specs.Rules.{Receiving, After, goes_on, jumps_from, keeps, one_more, starts, takes, up}
-use Rattle.section_stream.specs.Steps.{Gives, HasDone, done_by, kept_unless, with_packet}
+use Rattle.section_stream.specs.Steps.{kept_unless}
+use Rattle.section_stream.specs.Inner.Steps.{Gives, HasDone, done_by, with_packet}
 use Rattle.section_stream.specs.declared.counts.Counts.{Counts}
 
 abbrev taken_with : Receiving → Fields → Bool → Receiving × List Bytes

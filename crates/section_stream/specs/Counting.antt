@@ -1,6 +1,7 @@
 -- What each count of a demultiplexer counts, over all packets that it had: at how many of them this happens, which the packet and
 -- those before it decide.
 use Rattle.std.specs.Prelude.{◌≡◌, ℕ, zero, suc, ◌+◌, Bool, true, false, not, ◌&&◌, ◌||◌, List, [], ◌∷◌, ◌++◌, length, take, drop, slice_index, Option, Some, None, Result, Ok, Err, nat_lt, ◌==◌, if◌then◌else◌}
+use Rattle.carousel_profile.specs.declared.TheConstants.{PACKET_LENGTH}
 use Rattle.oc_bytes.specs.Outcome.{cap_at_u64}
 use Rattle.ts_packet.specs.Packets.{Fields, parse_packet}
 use Rattle.ts_packet.specs.declared.PacketFault.{PacketFault}
@@ -143,7 +144,7 @@ last_is_oversize (suc steps) here = if no_section_in here then false else go (la
 -- it is taken, and a section that begins in it has too great a length field, which stands in it too
 abbrev pub begun_oversize_at : ℕ → List Bytes → Bytes → Bool
 begun_oversize_at pid before x =
-    holds_of (λ p. is_taken pid before p && (p.start && pointer_is_within p.payload && last_is_oversize 188 (drop (1 + slice_index p.payload 0) p.payload))) (parse_packet x)
+    holds_of (λ p. is_taken pid before p && (p.start && pointer_is_within p.payload && last_is_oversize PACKET_LENGTH (drop (1 + slice_index p.payload 0) p.payload))) (parse_packet x)
 
 -- The counts over all packets; each stays at the greatest u64. A packet may show two sections with too great a length field: the open
 -- one, and one that begins in it.

@@ -5,13 +5,12 @@
 use Rattle.std.specs.Prelude.{ℕ, zero, suc, ◌+◌, ◌-◌, ◌%◌, Bool, not, ◌&&◌, ◌||◌, List, [], ◌∷◌, ◌++◌, length, map, take, drop, slice_index, Option, Some, None, Result, Ok, Err, nat_lt, nat_le, ◌==◌, if◌then◌else◌}
 use Rattle.std.specs.List.{filter_map, enumerate_from}
 use Rattle.std.specs.Str.{bytes_eq}
+use Rattle.carousel_profile.specs.declared.TheConstants.{PACKET_LENGTH}
 use Rattle.ts_packet.specs.Packets.{Fields, parse_packet}
 use Rattle.ts_packet.specs.declared.PacketFault.{PacketFault}
 use Rattle.oc_bytes.specs.declared.lengths.TheConstants.{MOST_LENGTH}
-use Rattle.oc_bytes.specs.Lengths.{section_length}
-
-abbrev pub Bytes : Type 0
-Bytes = List ℕ
+use Rattle.oc_bytes.specs.Numbers.{section_length}
+pub use Rattle.oc_bytes.specs.Numbers.{Bytes}
 
 -- a packet that parsed, and its number among all that came
 pub record Received : Type 0 where
@@ -31,13 +30,12 @@ kept_of pid number (Err fault) = None
 abbrev pub payloads_in : ℕ → List Bytes → List Received
 payloads_in pid packets = filter_map (λ x. kept_of pid x.0 (parse_packet x.1)) (enumerate_from 0 packets)
 
-abbrev pub is_repeat : Received → Received → Bool
-is_repeat a b = (a.counter == b.counter) && bytes_eq a.payload b.payload
-
--- without those that repeat the one before them
+-- without those that repeat the counter and the payload of the one before them
 abbrev pub without_repeats_of : Received → List Received → List Received
 without_repeats_of a [] = []
-without_repeats_of a (b ∷ bs) = if is_repeat a b then without_repeats_of b bs else b ∷ without_repeats_of b bs
+without_repeats_of a (b ∷ bs) =
+    if (a.counter == b.counter) && bytes_eq a.payload b.payload then without_repeats_of b bs
+    else b ∷ without_repeats_of b bs
 
 abbrev pub without_repeats : List Received → List Received
 without_repeats [] = []
@@ -77,14 +75,14 @@ opened_in (suc steps) number here later =
     if (length here == 0) || (slice_index here 0 == 0xFF) then []
     else go (opened_in steps number) (whole_len (here ++ later)) where
       go : (Bytes → Bytes → List Cut) → Option ℕ → List Cut
-      go more (Some n) = record { packet = number; offset = 188 - length here; bytes = take n (here ++ later) }
+      go more (Some n) = record { packet = number; offset = PACKET_LENGTH - length here; bytes = take n (here ++ later) }
           ∷ (if nat_le n (length here) then more (drop n here) later else [])
       go more None = []
 
 abbrev pub cuts_at : Received → List Received → List Cut
 cuts_at p later =
     if p.start && pointer_fits p
-    then opened_in 188 p.number (drop (1 + pointer_of p) p.payload) (going_on p.counter later)
+    then opened_in PACKET_LENGTH p.number (drop (1 + pointer_of p) p.payload) (going_on p.counter later)
     else []
 
 abbrev pub cuts_of : List Received → List Cut

@@ -1,11 +1,11 @@
 -- What the code keeps, as the rules see it.
-use Rattle.std.specs.Prelude.{ℕ, Option, Some, None, Result, Ok, Err, drop, nat_lt, if◌then◌else◌}
+use Rattle.std.specs.Prelude.{ℕ, Option, Some, None, Result, Ok, Err}
 use Rattle.std.specs.declared.vec.Vec.{Vec}
 use Rattle.std.specs.declared.alloc.Global.{Global}
 use Rattle.ts_packet.specs.Packets.{Fields, parse_packet}
 use Rattle.ts_packet.specs.declared.PacketFault.{PacketFault}
 use Rattle.section_stream.specs.Cuts.{Bytes}
-use Rattle.section_stream.specs.Rules.{Receiving, DemuxState}
+use Rattle.section_stream.specs.Rules.{Receiving}
 use Rattle.section_stream.specs.declared.receiver.Receiver.TheInside.{Inside}
 
 abbrev pub view_bytes : Vec ℕ Global → Bytes
@@ -16,13 +16,5 @@ abbrev pub last_of : Result Fields PacketFault → Option (ℕ × Bytes)
 last_of (Ok p) = Some (p.counter, p.payload)
 last_of (Err fault) = None
 
--- the same, as it is kept beside the packet: the payload goes from a place in it to its end; from 188 on there is none
-abbrev pub last_from : ℕ → ℕ → Bytes → Option (ℕ × Bytes)
-last_from place counter packet = if nat_lt place 188 then Some (counter, drop place packet) else None
-
 abbrev pub view_receiver : Inside → Receiving
 view_receiver d = record { pid = d.pid; last = last_of (parse_packet d.last); opened = d.opened; counts = d.counts }
-
--- a receiver and the bytes that are kept beside it
-abbrev pub with_unfinished : Receiving → Bytes → DemuxState
-with_unfinished r u = record { pid = r.pid; last = r.last; opened = r.opened; counts = r.counts; unfinished = u }

@@ -5,7 +5,7 @@ use Rattle.std.specs.Prelude.{◌≡◌, ℕ, zero, suc, ◌+◌, ◌-◌, ◌%�
 use Rattle.ts_packet.specs.Packets.{packet_bytes}
 use Rattle.section_stream.specs.Cuts.{Bytes}
 use Rattle.oc_bytes.specs.declared.lengths.TheConstants.{MOST_SECTION}
-use Rattle.oc_bytes.specs.Lengths.{section_length}
+use Rattle.oc_bytes.specs.Numbers.{section_length}
 
 -- the PID, the counter of the next packet, the bytes left of a section that was begun in packets already given, and the bytes of the
 -- sections that begin in the packet under way

@@ -3,6 +3,7 @@
 -- what is counted, and that a section whose packets are missing is dropped, are this project's own rules.
 use Rattle.std.specs.Prelude.{◌≡◌, ℕ, zero, suc, ◌+◌, ◌%◌, Bool, true, false, not, ◌&&◌, ◌||◌, List, [], ◌∷◌, ◌++◌, length, take, drop, slice_index, Option, Some, None, Result, Ok, Err, nat_lt, nat_le, ◌==◌, if◌then◌else◌}
 use Rattle.std.specs.Str.{bytes_eq}
+use Rattle.carousel_profile.specs.declared.TheConstants.{PACKET_LENGTH}
 use Rattle.oc_bytes.specs.Outcome.{cap_at_u64}
 use Rattle.ts_packet.specs.Packets.{Fields, parse_packet}
 use Rattle.ts_packet.specs.declared.PacketFault.{PacketFault}
@@ -10,7 +11,7 @@ use Rattle.ts_packet.specs.declared.PacketFault.TheVariants.{NoSync, Errored, Sc
 use Rattle.section_stream.specs.Cuts.{Bytes}
 use Rattle.section_stream.specs.declared.counts.Counts.{Counts}
 use Rattle.oc_bytes.specs.declared.lengths.TheConstants.{MOST_LENGTH}
-use Rattle.oc_bytes.specs.Lengths.{section_length}
+use Rattle.oc_bytes.specs.Numbers.{section_length}
 
 pub record Receiving : Type 0 where
   pub pid : ℕ
@@ -107,7 +108,7 @@ abbrev pub starts : Option Bytes → Bytes → Counts → After
 starts opened payload c =
     let p = slice_index payload 0 in
     if nat_lt p (length payload)
-    then (let first = closes opened (take p (drop 1 payload)) c in with_out first.out (open_on 188 (drop (1 + p) payload) first.counts))
+    then (let first = closes opened (take p (drop 1 payload)) c in with_out first.out (open_on PACKET_LENGTH (drop (1 + p) payload) first.counts))
     else record { opened = None; out = []; counts = record c { bad_pointer = up c.bad_pointer } }
 
 -- the packet repeats the last one
@@ -160,21 +161,11 @@ abbrev pub after_all : Receiving → List Bytes → Receiving
 after_all s [] = s
 after_all s (p ∷ ps) = after_all (step s p).0 ps
 
--- all that comes out of these packets
-abbrev pub outputs : Receiving → List Bytes → List Bytes
-outputs s [] = []
-outputs s (x ∷ xs) = (step s x).1 ++ outputs (step s x).0 xs
-
 -- the state stands for this list of packets, part by part; last pieces that were too short are counted apart
 pub record HasReceived (s : Receiving) (packets : List Bytes) : Type 0 where
   pub last : s.last ≡ (after_all (at_start s.pid) packets).last
   pub opened : s.opened ≡ (after_all (at_start s.pid) packets).opened
   pub counts : record s.counts { short_tail = 0 } ≡ (after_all (at_start s.pid) packets).counts
-
--- from one state these packets lead to the other, and their candidates stand after those before them
-pub record HasRun (s t : Receiving) (packets before after : List Bytes) : Type 0 where
-  pub state : after_all s packets ≡ t
-  pub out : after ≡ before ++ outputs s packets
 
 -- what a demultiplexer is: what it received, and the bytes that it keeps of an unfinished packet
 pub record DemuxState : Type 0 where

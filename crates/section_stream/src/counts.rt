@@ -1,6 +1,6 @@
 ghost use Rattle.std.specs.Prelude.{◌≡◌, false};
 ghost use Rattle.section_stream.specs.Rules as rules;
-ghost use Rattle.section_stream.specs.Steps as steps;
+ghost use Rattle.section_stream.specs.Inner.Steps as steps;
 
 use ts_packet::PacketFault;
 

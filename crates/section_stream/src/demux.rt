@@ -5,8 +5,9 @@ ghost use Rattle.section_stream.specs.Pieces.{packets_of, StandsForBytes};
 ghost use Rattle.section_stream.specs.Rules.{fresh, StandsFor, up};
 
 use crate::counts::Counts;
-use crate::piece::{PACKET, Piece};
+use crate::piece::Piece;
 use crate::receiver::Receiver;
+use carousel_profile::PACKET_LENGTH;
 use oc_bytes::NoMemory;
 use std::alloc::Global;
 use std::marker::Model;
@@ -32,6 +33,7 @@ pub struct Demux {
 impl Model for Demux {
     ghost use Rattle.std.specs.Prelude.{◌<◌, length};
     ghost use Rattle.section_stream.specs.Rules.{DemuxState};
+    ghost use Rattle.carousel_profile.specs.declared.TheConstants.{PACKET_LENGTH};
 
     ghost Value = { DemuxState };
 
@@ -45,7 +47,7 @@ impl Model for Demux {
           unfinished = d.unfinished;
         } };
 
-    ghost invariant = { λ d. length d.unfinished < 188 };
+    ghost invariant = { λ d. length d.unfinished < PACKET_LENGTH };
 }
 
 impl Demux {
@@ -73,7 +75,7 @@ impl Demux {
     /// A packet that completes no section takes no memory, so out of memory comes only of one that
     /// completes one. After it the packet isn't taken, and everything is as it was.
     #[inline]
-    pub fn feed(&mut self, packet: &[u8; 188]) -> Result<Vec<Vec<u8>>, NoMemory>
+    pub fn feed(&mut self, packet: &[u8; PACKET_LENGTH]) -> Result<Vec<Vec<u8>>, NoMemory>
         requires { self.old.unfinished ≡ [] }
         ensures stands { OnOk result ((packets : List Bytes)
             → StandsFor self.old packets
@@ -115,7 +117,8 @@ impl Demux {
             → StandsForBytes self.old bytes
             → candidates self.old.pid (packets_of (bytes ++ piece.now))
             ≡ candidates self.old.pid (packets_of bytes) ++ map view_bytes out.items) }
-        ensures memory { IsErr result → 188 ≤ length self.old.unfinished + length piece.now }
+        ensures memory { IsErr result
+            → PACKET_LENGTH ≤ length self.old.unfinished + length piece.now }
         ensures completes { OnErr result ((bytes : Bytes)
             → StandsForBytes self.old bytes
             → length (candidates self.old.pid (packets_of bytes))
@@ -123,7 +126,7 @@ impl Demux {
         ensures err { OnErr result (self.new ≡ self.old) }
     {
         let mut out = Vec::new(self.alloc);
-        let missing = PACKET - self.unfinished.len();
+        let missing = PACKET_LENGTH - self.unfinished.len();
         if piece.len() < missing {
             self.unfinished.append(piece);
             return Ok(out);

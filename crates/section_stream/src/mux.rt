@@ -4,6 +4,7 @@ ghost use Rattle.section_stream.specs.Packing.{IsSectionLike, with_stuffing, aft
 
 use crate::held::Held;
 use crate::piece::copy_at;
+use carousel_profile::PACKET_LENGTH;
 use oc_bytes::NoMemory;
 use std::alloc::Global;
 use std::marker::Model;
@@ -64,7 +65,11 @@ impl Mux {
     /// byte, is the number of the bytes after it, and its first byte isn't 0xFF.
     ///
     /// After out of memory, which comes only where packets were to be given, all is as before.
-    pub fn packets(&mut self, section: &[u8], out: &mut Vec<[u8; 188]>) -> Result<(), NoMemory>
+    pub fn packets(
+        &mut self,
+        section: &[u8],
+        out: &mut Vec<[u8; PACKET_LENGTH]>,
+    ) -> Result<(), NoMemory>
         requires { IsSectionLike section.now }
         ensures packets { OnOk result
             (out.new.items ≡ out.old.items ++ packets_of self.old section.now) }
@@ -98,7 +103,7 @@ impl Mux {
     /// next section begins a packet.
     ///
     /// After out of memory, which comes only where something is held back, all is as before.
-    pub fn finish(&mut self, out: &mut Vec<[u8; 188]>) -> Result<(), NoMemory>
+    pub fn finish(&mut self, out: &mut Vec<[u8; PACKET_LENGTH]>) -> Result<(), NoMemory>
         ensures packets { OnOk result (out.new.items ≡ out.old.items ++ last_of self.old) }
         ensures state { OnOk result (self.new ≡ after_finish self.old) }
         ensures memory { OnErr result (0 < length (last_of self.old)) }
@@ -120,7 +125,12 @@ impl Mux {
 
 /// Puts the packets that the rest of a begun section fills, or ends with one byte to spare, after those in `out`, where there
 /// is room for them. Gives what is left of the section and the counter of the next packet.
-fn put_rest<'a>(pid: u16, first: u8, section: &'a [u8], out: &mut Vec<[u8; 188]>) -> (&'a [u8], u8)
+fn put_rest<'a>(
+    pid: u16,
+    first: u8,
+    section: &'a [u8],
+    out: &mut Vec<[u8; PACKET_LENGTH]>,
+) -> (&'a [u8], u8)
     requires pid { pid < 8192 }
     requires counter { first < 16 }
     requires room { vec_len out.old + (length section.now + 1) / 184 ≤ vec_capacity out.old }
@@ -144,7 +154,14 @@ fn put_rest<'a>(pid: u16, first: u8, section: &'a [u8], out: &mut Vec<[u8; 188]>
 /// Puts one packet after those in `out`, where there is room for it: its payload is the pointer field, if a section begins in
 /// it, what was held back, the front of a section, and stuffing.
 #[tactic(auto, using(crate::proofs::Filling::no_stuffing))]
-fn put(pid: u16, counter: u8, pointer: &[u8], held: &[u8], front: &[u8], out: &mut Vec<[u8; 188]>)
+fn put(
+    pid: u16,
+    counter: u8,
+    pointer: &[u8],
+    held: &[u8],
+    front: &[u8],
+    out: &mut Vec<[u8; PACKET_LENGTH]>,
+)
     requires pid { pid < 8192 }
     requires counter { counter < 16 }
     requires size { length pointer.now + length held.now + length front.now ≤ 184 }
@@ -171,7 +188,7 @@ fn put(pid: u16, counter: u8, pointer: &[u8], held: &[u8], front: &[u8], out: &m
 }
 
 /// Puts the packet with this payload after those in `out`, where there is room for it.
-fn push(pid: u16, start: bool, counter: u8, payload: &[u8; 184], out: &mut Vec<[u8; 188]>)
+fn push(pid: u16, start: bool, counter: u8, payload: &[u8; 184], out: &mut Vec<[u8; PACKET_LENGTH]>)
     requires pid { pid < 8192 }
     requires counter { counter < 16 }
     requires room { vec_len out.old < vec_capacity out.old }

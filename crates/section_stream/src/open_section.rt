@@ -1,8 +1,10 @@
 ghost use Rattle.std.specs.Prelude.{◌≡◌, ◌≤◌, ◌+◌, ◌++◌, [], Some, None, IsSome, IfOk, OnOk, OnErr, length, map, take, vec_len, vec_capacity};
 ghost use Rattle.std.specs.List.{insert};
 ghost use Rattle.std.specs.Option.{option_copied, ForSome};
+ghost use Rattle.oc_bytes.specs.Outcome.{MakesList};
 ghost use Rattle.section_stream.specs.Kept.{view_bytes};
-ghost use Rattle.section_stream.specs.Steps.{bytes_of, kept_unless, IsWhole};
+ghost use Rattle.section_stream.specs.Steps.{kept_unless};
+ghost use Rattle.section_stream.specs.Inner.Steps.{bytes_of, IsWhole};
 ghost use Rattle.section_stream.specs.declared.open_section.TheConstants.{LONG};
 ghost use Rattle.oc_bytes.specs.declared.lengths.TheConstants.{MOST_SECTION};
 
@@ -137,7 +139,7 @@ impl OpenSection {
 /// Room for a section of `n` bytes that is copied, or for the longest one that comes next.
 fn spare_for(alloc: Global, n: usize) -> Result<Vec<u8>, NoMemory>
     requires { n ≤ MOST_SECTION }
-    ensures empty { IfOk result (λ spare. spare.items ≡ []) }
+    ensures empty { MakesList result [] }
     ensures room { IfOk result (λ spare. n ≤ vec_capacity spare) }
     ensures longest { IfOk result (λ spare. LONG ≤ n → MOST_SECTION ≤ vec_capacity spare) }
 {

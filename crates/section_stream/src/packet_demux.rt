@@ -5,6 +5,7 @@ ghost use Rattle.section_stream.specs.Rules.{fresh, StandsFor, up};
 
 use crate::counts::Counts;
 use crate::receiver::Receiver;
+use carousel_profile::PACKET_LENGTH;
 use oc_bytes::NoMemory;
 use std::alloc::Global;
 use std::marker::Model;
@@ -48,7 +49,7 @@ impl PacketDemux {
 
     /// Takes one packet, as `Demux::feed` does: out of memory comes only of a packet that completes a section.
     #[inline]
-    pub fn feed(&mut self, packet: &[u8; 188]) -> Result<Vec<Vec<u8>>, NoMemory>
+    pub fn feed(&mut self, packet: &[u8; PACKET_LENGTH]) -> Result<Vec<Vec<u8>>, NoMemory>
         ensures stands { OnOk result ((packets : List Bytes)
             → StandsFor self.old packets
             → StandsFor self.new (packets ++ packet.now ∷ [])) }

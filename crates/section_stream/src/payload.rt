@@ -4,11 +4,13 @@ ghost use Rattle.std.specs.Prelude.{◌≡◌, ◌<◌, ◌≤◌, ◌++◌, [],
 ghost use Rattle.std.specs.Option.{option_copied, ForSome};
 ghost use Rattle.section_stream.specs.Kept.{view_bytes};
 ghost use Rattle.section_stream.specs.Rules as rules;
-ghost use Rattle.section_stream.specs.Steps.{begun_by, bytes_of, done_by, growth_of, kept_unless, no_section_in, open_all, section_of, HasDone, HasOut, IsWhole};
+ghost use Rattle.section_stream.specs.Steps.{kept_unless, no_section_in};
+ghost use Rattle.section_stream.specs.Inner.Steps.{begun_by, bytes_of, done_by, growth_of, open_all, section_of, HasDone, HasOut, IsWhole};
 ghost use Rattle.oc_bytes.specs.declared.lengths.TheConstants.{MOST_SECTION};
 
 use crate::counts::{Counts, up};
 use crate::open_section::OpenSection;
+use carousel_profile::PACKET_LENGTH;
 use oc_bytes::{MOST_LENGTH, NoMemory, length_field};
 use std::alloc::Global;
 
@@ -161,7 +163,7 @@ fn open_sections<'a>(
     out: &mut Vec<Vec<u8>>,
     counts: &mut Counts,
 ) -> Result<Option<&'a [u8]>, NoMemory>
-    requires { length here.now ≤ 188 }
+    requires { length here.now ≤ PACKET_LENGTH }
     ensures done { IfOk result (λ opened.
         HasDone (open_all here.now counts.old) (option_copied opened) (map view_bytes out.old.items)
         (map view_bytes out.new.items) counts.new) }
@@ -197,7 +199,7 @@ fn begins(
     out: &mut Vec<Vec<u8>>,
     counts: &mut Counts,
 ) -> Result<(), NoMemory>
-    requires few { length here.now ≤ 188 }
+    requires few { length here.now ≤ PACKET_LENGTH }
     requires whole { ForSome whole (λ n. IsWhole opened.old part.now n) }
     ensures done { OnOk result
         (HasDone (begun_by opened.old part.now whole here.now counts.old) opened.new

@@ -1,25 +1,24 @@
 ghost use Rattle.std.specs.Prelude.{◌≡◌, ◌≤◌, ◌+◌, ◌++◌, [], length, take, drop};
 
+use carousel_profile::PACKET_LENGTH;
 use std::marker::Model;
 
-/// The size of a packet in bytes (ISO/IEC 13818-1, 2.4.3.2).
-pub const PACKET: usize = 188;
-
-/// At most 188 bytes, in place: nothing here takes memory.
+/// At most the bytes of a packet, in place: nothing here takes memory.
 #[derive(Drop)]
 pub struct Piece {
-    bytes: [u8; 188],
+    bytes: [u8; PACKET_LENGTH],
     len: usize,
 }
 
 impl Model for Piece {
     ghost use Rattle.std.specs.Prelude.{◌≤◌, ℕ, List, take};
+    ghost use Rattle.carousel_profile.specs.declared.TheConstants.{PACKET_LENGTH};
 
     ghost Value = { List ℕ };
 
     ghost view = { λ p. take p.len p.bytes };
 
-    ghost invariant = { λ p. p.len ≤ 188 };
+    ghost invariant = { λ p. p.len ≤ PACKET_LENGTH };
 }
 
 impl Piece {
@@ -27,7 +26,7 @@ impl Piece {
         ensures { result ≡ [] }
     {
         Piece {
-            bytes: [0; 188],
+            bytes: [0; PACKET_LENGTH],
             len: 0,
         }
     }
@@ -48,7 +47,7 @@ impl Piece {
 
     /// Puts more bytes after these.
     pub fn append(&mut self, more: &[u8])
-        requires { length self.old + length more.now ≤ 188 }
+        requires { length self.old + length more.now ≤ PACKET_LENGTH }
         ensures { self.new ≡ self.old ++ more.now }
     {
         copy_at(&mut self.bytes, self.len, more);
@@ -57,7 +56,7 @@ impl Piece {
 
     /// Keeps these bytes in place of those before.
     pub fn replace(&mut self, bytes: &[u8])
-        requires { length bytes.now ≤ 188 }
+        requires { length bytes.now ≤ PACKET_LENGTH }
         ensures { self.new ≡ bytes.now }
     {
         copy_at(&mut self.bytes, 0, bytes);
@@ -65,8 +64,8 @@ impl Piece {
     }
 
     /// The packet that these bytes and those after them make.
-    pub fn completed(&self, behind: &[u8]) -> [u8; 188]
-        requires { length self.now + length behind.now ≡ 188 }
+    pub fn completed(&self, behind: &[u8]) -> [u8; PACKET_LENGTH]
+        requires { length self.now + length behind.now ≡ PACKET_LENGTH }
         ensures { result ≡ self.now ++ behind.now }
     {
         let mut packet = self.bytes;

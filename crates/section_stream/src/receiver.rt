@@ -1,15 +1,16 @@
 ghost use Rattle.std.specs.Prelude.{◌≡◌, ◌++◌, ◌∷◌, ◌<◌, ◌≤◌, ◌+◌, ◌%◌, [], length, map, drop, Some, None, Ok, MatchOption, OnOk, OnErr, IfOk};
 ghost use Rattle.ts_packet.specs.Packets.{parse_packet, view};
 ghost use Rattle.section_stream.specs.Pieces.{packets_of, rest_of};
-ghost use Rattle.section_stream.specs.Rules.{HasRun, one_more, outputs, at_start, up};
+ghost use Rattle.section_stream.specs.Rules.{one_more, at_start, up};
+ghost use Rattle.section_stream.specs.Inner.Rules.{HasRun, outputs};
 ghost use Rattle.section_stream.specs.Rules as rules;
-ghost use Rattle.section_stream.specs.Steps.{Completes, Gives};
+ghost use Rattle.section_stream.specs.Inner.Steps.{Completes, Gives};
 ghost use Rattle.section_stream.specs.Kept.{view_bytes};
 
 use crate::counts::{Aside, Counts, count_aside, count_packet, nothing_counted, up};
 use crate::open_section::OpenSection;
 use crate::payload::payload_done;
-use crate::piece::PACKET;
+use carousel_profile::PACKET_LENGTH;
 use oc_bytes::NoMemory;
 use std::alloc::Global;
 use std::marker::Model;
@@ -22,7 +23,7 @@ pub struct Receiver {
     pid: u16,
     /// The last packet that had the PID and a payload and was no duplicate. Before the first it is all
     /// zeros, which is no packet.
-    last: [u8; 188],
+    last: [u8; PACKET_LENGTH],
     /// The counter of that packet, and where its payload begins in it, or 188 before the first.
     counter: u8,
     payload_at: usize,
@@ -37,7 +38,8 @@ impl Model for Receiver {
 
     ghost use Rattle.std.specs.Prelude.{◌≡◌};
     ghost use Rattle.ts_packet.specs.Packets.{parse_packet};
-    ghost use Rattle.section_stream.specs.Kept.{last_from, last_of, view_receiver};
+    ghost use Rattle.section_stream.specs.Kept.{last_of, view_receiver};
+    ghost use Rattle.section_stream.specs.Inner.Kept.{last_from};
 
     ghost view = { view_receiver };
 
@@ -64,8 +66,8 @@ fn counter_after(counter: u8) -> u8
 
 /// What stands in a packet from a place on.
 #[inline]
-fn from_place(packet: &[u8; 188], place: usize) -> &[u8]
-    requires { place ≤ 188 }
+fn from_place(packet: &[u8; PACKET_LENGTH], place: usize) -> &[u8]
+    requires { place ≤ PACKET_LENGTH }
     ensures { result.now ≡ drop place packet.now }
 {
     &packet[place..]
@@ -81,9 +83,9 @@ impl Receiver {
         Ok(Receiver {
             alloc,
             pid,
-            last: [0; 188],
+            last: [0; PACKET_LENGTH],
             counter: 0,
-            payload_at: PACKET,
+            payload_at: PACKET_LENGTH,
             opened: OpenSection::new(alloc)?,
             counts: nothing_counted(),
         })
@@ -113,13 +115,13 @@ impl Receiver {
             (HasRun self.old self.new (packets_of bytes.now) (map view_bytes out.old.items)
             (map view_bytes out.new.items)) }
         ensures rest { IfOk result (λ rest.
-            (rest.now ≡ rest_of bytes.now) × (length rest.now < 188)) }
+            (rest.now ≡ rest_of bytes.now) × (length rest.now < PACKET_LENGTH)) }
         ensures memory { OnErr result (0 < length (outputs self.old (packets_of bytes.now))) }
     {
         let mut rest = bytes;
-        while let Some(packet) = rest.first_chunk::<PACKET>() {
+        while let Some(packet) = rest.first_chunk::<PACKET_LENGTH>() {
             self.step(packet, out)?;
-            rest = &rest[PACKET..];
+            rest = &rest[PACKET_LENGTH..];
         }
         Ok(rest)
     }
@@ -127,7 +129,11 @@ impl Receiver {
     /// One packet by the receiver's rules, with its candidates after those in `out`. After out of memory,
     /// which comes only where it has any, the packet isn't taken.
     #[inline]
-    pub fn step(&mut self, packet: &[u8; 188], out: &mut Vec<Vec<u8>>) -> Result<(), NoMemory>
+    pub fn step(
+        &mut self,
+        packet: &[u8; PACKET_LENGTH],
+        out: &mut Vec<Vec<u8>>,
+    ) -> Result<(), NoMemory>
         ensures ok { OnOk result
             (Gives (rules.step self.old packet.now) self.new (map view_bytes out.old.items)
             (map view_bytes out.new.items)) }
@@ -149,7 +155,7 @@ impl Receiver {
         ensures { MatchOption result (self.now.last ≡ None) (λ l.
             self.now.last ≡ Some (l.0, l.1.now)) }
     {
-        if self.payload_at < PACKET {
+        if self.payload_at < PACKET_LENGTH {
             Some((self.counter, from_place(&self.last, self.payload_at)))
         } else {
             None
@@ -158,7 +164,7 @@ impl Receiver {
 
     /// What a packet is, by the packet that was kept before it.
     #[inline]
-    fn classify<'a>(&self, packet: &'a [u8; 188]) -> Class<'a>
+    fn classify<'a>(&self, packet: &'a [u8; PACKET_LENGTH]) -> Class<'a>
         ensures { IsClass self.now packet.now result }
     {
         let fields = match parse(packet) {
@@ -185,7 +191,7 @@ impl Receiver {
     #[inline]
     fn take(
         &mut self,
-        packet: &[u8; 188],
+        packet: &[u8; PACKET_LENGTH],
         fields: Packet<'_>,
         jumped: bool,
         out: &mut Vec<Vec<u8>>,
@@ -214,7 +220,7 @@ impl Receiver {
             Ok(()) => {
                 self.last = *packet;
                 self.counter = fields.counter;
-                self.payload_at = PACKET - fields.payload.len();
+                self.payload_at = PACKET_LENGTH - fields.payload.len();
                 Ok(())
             }
             Err(fault) => {

@@ -1,7 +1,7 @@
 ghost use Rattle.std.specs.Prelude.{◌≡◌, ◌≤◌, map, length, IfOk};
-ghost use Rattle.std.specs.List.{All, Contains};
+ghost use Rattle.std.specs.List.{All};
 ghost use Rattle.dsmcc_section.specs.Sections.{IsFramed};
-ghost use Rattle.generation.specs.Layouts.{items_of, section_of};
+ghost use Rattle.generation.specs.Layouts.{section_of, AreItemsOf};
 
 use crate::gate::{Actor, Gate};
 use cycle_planner::Item;
@@ -23,7 +23,7 @@ pub fn encode_batch<R: Threads + Sync, G: Gate>(
     gate: &G,
 ) -> Result<Vec<Vec<u8>>, NoMemory>
     requires count { length items.now ≤ 1024 }
-    requires items { All (λ item. Contains (items_of generation.now) item) items.now }
+    requires items { AreItemsOf generation.now items.now }
     ensures exact { IfOk result (λ sections.
         map (λ s. s.items) sections.items ≡ map (section_of generation.now) items.now) }
     ensures framed { IfOk result (λ sections. All (λ s. IsFramed s.items) sections.items) }
@@ -32,7 +32,7 @@ pub fn encode_batch<R: Threads + Sync, G: Gate>(
     let (first, second) = join(
         rt,
         || -> Result<Vec<Vec<u8>>, NoMemory>
-            requires { All (λ item. Contains (items_of generation.now) item) low.now }
+            requires { AreItemsOf generation.now low.now }
             ensures exact { IfOk result (λ sections.
                 map (λ s. s.items) sections.items
                 ≡ map (section_of generation.entry.now) low.entry.now) }
@@ -42,7 +42,7 @@ pub fn encode_batch<R: Threads + Sync, G: Gate>(
             encode(alloc, generation, low, items.len())
         },
         || -> Result<Vec<Vec<u8>>, NoMemory>
-            requires { All (λ item. Contains (items_of generation.now) item) high.now }
+            requires { AreItemsOf generation.now high.now }
             ensures exact { IfOk result (λ sections.
                 map (λ s. s.items) sections.items
                 ≡ map (section_of generation.entry.now) high.entry.now) }
@@ -64,7 +64,7 @@ fn encode(
     items: &[Item],
     room: usize,
 ) -> Result<Vec<Vec<u8>>, NoMemory>
-    requires { All (λ item. Contains (items_of generation.now) item) items.now }
+    requires { AreItemsOf generation.now items.now }
     ensures exact { IfOk result (λ sections.
         map (λ s. s.items) sections.items ≡ map (section_of generation.now) items.now) }
     ensures framed { IfOk result (λ sections. All (λ s. IsFramed s.items) sections.items) }

@@ -1,56 +1,13 @@
 -- All seats after one event more; and from what a session begins with to what its threads and its end ask for.
-use Rattle.std.proofs.Common.{◌≡◌, ◌≤◌, ◌+◌, ℕ, zero, suc, List, [], ◌∷◌, ◌++◌, map, length, Bool, Option, Some, refl, sym, ap, ◌∙◌, subst, arith, ◌<◌}
-use Rattle.std.specs.Prelude.{slice_get, slice_index_or}
-use Rattle.std.specs.Option.{option_to_list}
-use Rattle.std.specs.declared.vec.Vec.{Vec}
-use Rattle.std.specs.declared.alloc.Global.{Global}
-use Rattle.std.specs.List.{All, Contains}
-use Rattle.std.proofs.lemmas.List.{length-map, length-append}
+use Rattle.session.proofs.Words.{◌≡◌, ◌≤◌, ◌+◌, ℕ, zero, suc, List, [], ◌∷◌, ◌++◌, map, length, Bool, Option, Some, refl, sym, ap, ◌∙◌, subst, arith, ◌<◌, slice_get, slice_index_or, option_to_list, Vec, Global, All, Contains, length-map, length-append, Fate, Shot, view, snapshot_after, Pass, Station, Kept, KeptItem, IsStationPass, AreNewPasses, carousel_of, pass_count, entries_seen, own_entries, weights_of, Book, Viewer, DownlinkStands, DownlinkState, Step, Commit, Draw, Open, candidates_after, DrawFields, Draws, Seen, nothing_seen, seen_after, seen_in, lists_of, AreShots, HasShown, IsDrawLine, IsEditorSeat, draw_of, edits_of, HasFed, DrawLine, Cast, Start, commits_by, draws_in, asked_from, opens_by, IsPlanOf, before_steps, during_steps, end_steps, settling_lines, steps, above, AreApart, EditorsStand, IsViewerOf, ReadersStand, Setting, asked_for, done_in, draws_of, editor_plan, numbers_of, planned_for, reader_plan, readers_of, view_happening, EditorPlan, IsNext, IsKnown, ReaderPlan, ReaderStands, draws_before, events_in, AllMentionedIn, AreSameActors, CastStands, HasWork, IsCast, IsMentionedIn, CastDone, AreDone, EditorsDone, IsBegun, with_draw, Drawing, PathNames, Edit, Happening, AreOpened, Rises, EditorSeat, FeederSeat, ReaderSeat}
 use Rattle.session.proofs.Session.{apart_numbers}
-use Rattle.ts_packet.specs.declared.Fate.{Fate}
-use Rattle.path_resolver.specs.declared.shot.Shot.{Shot}
-use Rattle.path_resolver.specs.Shots.{view}
-use Rattle.tuner_core.specs.LookBack.{snapshot_after}
-use Rattle.history_lock.specs.declared.pass.Pass.{Pass}
-use Rattle.station.specs.declared.station.Station.{Station}
-use Rattle.station.specs.declared.kept.Kept.{Kept}
-use Rattle.station.specs.declared.kept.KeptItem.{KeptItem}
-use Rattle.station.specs.Passes.{IsStationPass, AreNewPasses, carousel_of, pass_count, entries_seen, own_entries, weights_of}
-use Rattle.logbook.specs.Pages.{Book}
-use Rattle.shot_board.specs.declared.viewer.Viewer.{Viewer}
 use Rattle.shot_board.specs.Viewers.{known_of, told_of, most_of, viewer_board}
 use Rattle.shot_board.specs.Shots.{Each}
-use Rattle.carousel_world.specs.DownView.{DownlinkStands, DownlinkState}
-use Rattle.carousel_world.specs.Events.{Step, Commit, Draw, Open}
-use Rattle.history_merge.specs.Merges.{candidates_after}
 use Rattle.session_script.specs.declared.values.TheConstants.{MOST_ACTORS}
-use Rattle.session.specs.Chains.{DrawFields, Draws, Seen, nothing_seen, seen_after, seen_in}
-use Rattle.session.specs.Inner.ByActor.{lists_of}
-use Rattle.session.specs.Shown.{AreShots, HasShown}
-use Rattle.session.specs.Seats.{IsDrawLine, IsEditorSeat, draw_of, edits_of, HasFed}
-use Rattle.session.specs.declared.feeder.DrawLine.{DrawLine}
-use Rattle.session.specs.declared.cast.Cast.{Cast}
 use Rattle.session.specs.declared.plan.Plan.{Plan}
-use Rattle.session.specs.declared.whole.Start.{Start}
-use Rattle.session.specs.Lines.{commits_by, draws_in, opens_by, asked_from}
-use Rattle.session.specs.Inner.Plans.{IsPlanOf, before_steps, during_steps, end_steps, settling_lines, steps, above}
-use Rattle.session.specs.Inner.Acting.{AreApart, EditorsStand, IsViewerOf, ReadersStand, Setting, asked_for, done_in, draws_of, editor_plan, numbers_of, planned_for, reader_plan, readers_of, view_happening, EditorPlan, IsNext, IsKnown, ReaderPlan, ReaderStands, draws_before, events_in}
-use Rattle.session.specs.Inner.Casting.{AllMentionedIn, AreSameActors, CastStands, HasWork, IsCast, IsMentionedIn}
-use Rattle.session.specs.Inner.Threads.{CastDone}
-use Rattle.session.specs.Inner.Ending.{AreDone, EditorsDone}
-use Rattle.session.specs.Inner.Playing.{IsBegun}
 use Rattle.session.proofs.Parted.{IsNamed, before_named, draws_at_end, opens_at_end}
 use Rattle.session.proofs.Staged.{count_all, count_done, draws_more, idle_of}
-use Rattle.generation_catalogue.specs.History.{with_draw}
-use Rattle.carousel_world.specs.World.{Drawing}
-use Rattle.path_tree.specs.Paths.{PathNames}
-use Rattle.path_tree.specs.declared.tree.Edit.{Edit}
-use Rattle.rehearsal.specs.declared.interpreter.Happening.{Happening}
 use Rattle.rehearsal.specs.declared.interpreter.Happening.TheVariants as deeds
-use Rattle.session.specs.Opened.{AreOpened, Rises}
-use Rattle.session.specs.declared.editor.EditorSeat.{EditorSeat}
-use Rattle.session.specs.declared.feeder.FeederSeat.{FeederSeat}
-use Rattle.session.specs.declared.reader.ReaderSeat.{ReaderSeat}
 use Rattle.session.proofs.Editing.{editors_idle}
 use Rattle.session.proofs.Reading.{readers_idle}
 
@@ -77,9 +34,7 @@ room_to_draw setting done asked fates next =
     let before : length (draws_in (before_steps setting.parts)) ≡ length (draws_in done) + suc (length (draws_in next.0)) =
     ap (λ (es : List Step). length (draws_in es)) next.1 ∙ ap (λ (xs : List DrawFields). length xs) (draws_more done (Draw asked fates ∷ next.0))
     ∙ length-append (draws_in done) (draws_in (Draw asked fates ∷ next.0)) in
-    let first = count_done draws_in draws_more setting in
-    let all = count_all draws_in draws_more setting in
-    omega (arith, before, first, all)
+    let first = count_done draws_in draws_more setting in let all = count_all draws_in draws_more setting in omega (arith, before, first, all)
 
 -- ---- the readers
 
@@ -91,25 +46,22 @@ readers_told setting done shots shown old new count told st = λ k d lt.
     one_told setting done shots shown (slice_index_or old k d) (slice_index_or new k d) (told k d below) (st k d below)
   where
     one_told : (setting : Setting) (done : List Step) (shots shown : List Shot) (old new : ReaderSeat) → IsKnown shown old new → ReaderStands setting done shots old → ReaderStands setting done shown new
-    one_told setting done shots shown old new t st =
-        let asked = λ (r : ℕ). asked_from r (draws_before setting) (draws_of setting) 0 (above done) in
-        record {
-          board_is = t.same.2 ∙ st.board_is;
-          most_is = t.same.3 ∙ st.most_is;
-          few = subst (λ (ks : List Shot). length ks ≤ new.pass.most + 1) (sym t.known) (subst (λ (n : ℕ). length old.pass.known ≤ n + 1) (sym t.same.3) st.few);
-          opened = record {
-            opened = subst (λ (es : List _). AreOpened (asked new.pass.reader) es) (sym t.opens) (subst (λ (r : ℕ). AreOpened (asked r) old.pass.opens) (sym t.same.0) st.opened.opened);
-            rises = subst (λ (es : List _). Rises 0 es (length new.pass.known)) (sym t.opens) (subst (λ (ks : List Shot). Rises 0 old.pass.opens (length ks)) (sym t.known) st.opened.rises);
-          };
-          told = t.told;
-          room = t.same.1 ∙ st.room ∙ ap (λ (r : ℕ). length (opens_by r (steps (events_in setting)))) (sym t.same.0);
-        }
+    one_told setting done shots shown old new t st = let asked = λ (r : ℕ). asked_from r (draws_before setting) (draws_of setting) 0 (above done) in record {
+      board_is = t.same.2 ∙ st.board_is;
+      most_is = t.same.3 ∙ st.most_is;
+      few = subst (λ (ks : List Shot). length ks ≤ new.pass.most + 1) (sym t.known) (subst (λ (n : ℕ). length old.pass.known ≤ n + 1) (sym t.same.3) st.few);
+      opened = record {
+        opened = subst (λ (es : List _). AreOpened (asked new.pass.reader) es) (sym t.opens) (subst (λ (r : ℕ). AreOpened (asked r) old.pass.opens) (sym t.same.0) st.opened.opened);
+        rises = subst (λ (es : List _). Rises 0 es (length new.pass.known)) (sym t.opens) (subst (λ (ks : List Shot). Rises 0 old.pass.opens (length ks)) (sym t.known) st.opened.rises);
+      };
+      told = t.told;
+      room = t.same.1 ∙ st.room ∙ ap (λ (r : ℕ). length (opens_by r (steps (events_in setting)))) (sym t.same.0);
+    }
 
 pub same_readers : (shown : List Shot) (old new : List ReaderSeat) → length new ≡ length old → ((k : ℕ) (d : ReaderSeat) → k < length old → IsKnown shown (slice_index_or old k d) (slice_index_or new k d))
     → map reader_plan new ≡ map reader_plan old
 same_readers shown [] [] count told = refl
-same_readers shown (x ∷ xs) (y ∷ ys) count told =
-    let t = told 0 x (omega arith) in
+same_readers shown (x ∷ xs) (y ∷ ys) count told = let t = told 0 x (omega arith) in
     let alike : reader_plan y ≡ reader_plan x = λ i. record { reader = t.same.0 i; paths = (t.paths i).items; finales = (t.finales i).items } in
     λ i. alike i ∷ same_readers shown xs ys (omega (arith, count)) (λ k d lt. told (suc k) d (omega (arith, lt))) i
 same_readers shown [] (y ∷ ys) count told = absurd (omega (arith, count))
@@ -161,8 +113,7 @@ module _ {X : _} {F : _} {g : _} (setting : Setting) (s : Station X F g) (done :
   -- a commit
   pub cast_edited : (editor : ℕ) (edits : Vec Edit Global) → d ≡ deeds.Commit editor edits → new.feeder ≡ old.feeder → new.readers ≡ old.readers
       → EditorsStand s (done ++ Commit editor edits.items ∷ []) new.editors.items → CastStands setting s (done ++ view_happening d ∷ []) shots new
-  cast_edited editor edits is feeder readers stands =
-      let e : Step = Commit editor edits.items in
+  cast_edited editor edits is feeder readers stands = let e : Step = Commit editor edits.items in
       subst (λ (x : Happening). CastStands setting s (done ++ view_happening x ∷ []) shots new) (sym is)
       (record {
         editors = stands;
@@ -173,8 +124,7 @@ module _ {X : _} {F : _} {g : _} (setting : Setting) (s : Station X F g) (done :
   -- an open
   pub cast_opened : (reader : ℕ) (path : PathNames) → d ≡ deeds.Open reader path → new.editors ≡ old.editors → new.feeder ≡ old.feeder
       → ReadersStand setting (done ++ Open reader path ∷ []) shots new.readers.items → CastStands setting s (done ++ view_happening d ∷ []) shots new
-  cast_opened reader path is editors feeder stands =
-      let e : Step = Open reader path in
+  cast_opened reader path is editors feeder stands = let e : Step = Open reader path in
       subst (λ (x : Happening). CastStands setting s (done ++ view_happening x ∷ []) shots new) (sym is)
       (record {
         editors = subst (λ (es : Vec EditorSeat Global). EditorsStand s (done ++ e ∷ []) es.items) (sym editors) (editors_idle s done old.editors.items e (λ n. refl) st.editors);
@@ -188,8 +138,7 @@ module _ {X : _} {F : _} {g : _} (setting : Setting) (s : Station X F g) (done :
       → shown ≡ drawn → length new.readers.items ≡ length old.readers.items
       → ((k : ℕ) (r : ReaderSeat) → k < length old.readers.items → IsKnown drawn (slice_index_or old.readers.items k r) (slice_index_or new.readers.items k r))
       → CastStands setting s (done ++ view_happening d ∷ []) shown new
-  cast_drew drawn shown asked fates is editors fed same count told =
-      let e : Step = Draw asked fates.items in
+  cast_drew drawn shown asked fates is editors fed same count told = let e : Step = Draw asked fates.items in
       subst (λ (xs : List Shot). CastStands setting s (done ++ view_happening d ∷ []) xs new) (sym same)
       (subst (λ (x : Happening). CastStands setting s (done ++ view_happening x ∷ []) drawn new) (sym is)
       (record {
@@ -214,10 +163,7 @@ open_is_next setting done d reader path is next = subst (λ (x : Happening). IsN
 
 pub first_shown : (down : DownlinkState) (first : Shot) (shots : List Shot) → DownlinkStands down 256 [] [] [] → shots ≡ first ∷ []
     → view first ≡ snapshot_after 0 0 (candidates_after [] 0) → HasShown [] down shots
-first_shown down first shots stands is seen = record {
-  carried = stands;
-  shown = subst (AreShots []) (sym is) (record { count = refl; each = each });
-}
+first_shown down first shots stands is seen = record { carried = stands; shown = subst (AreShots []) (sym is) (record { count = refl; each = each }) }
   where
     each : (k : ℕ) (shot : Shot) → slice_get (first ∷ []) k ≡ Some shot → view shot ≡ snapshot_after k k (candidates_after [] k)
     each zero shot h = let same : first ≡ shot = cc in subst (λ (s : Shot). view s ≡ snapshot_after 0 0 (candidates_after [] 0)) same seen
@@ -247,15 +193,10 @@ popped_pass s all rest o p is some h =
 -- all draws were counted
 pub draws_counted : (setting : Setting) (plan : Plan) → IsPlanOf setting.parts plan
     → length (draws_in (map view_happening plan.before.items)) + length plan.work.draws.items + length (settling_lines plan.settles) ≡ draws_of setting
-draws_counted setting plan h =
-    let a = ap (λ (es : List Step). length (draws_in es)) h.before in
-    let b = ap (λ (ds : List DrawFields). length ds) h.work.draws in
-    let l = length-map plan.work.draws.items draw_of in
-    let c = ap (λ (b : Bool). length (settling_lines b)) h.settles in
-    let e = ap (λ (ds : List DrawFields). length ds) (draws_at_end setting.parts) in
-    let first = count_done draws_in draws_more setting in
-    let all = count_all draws_in draws_more setting in
-    omega (arith, a, b, c, e, l, first, all)
+draws_counted setting plan h = let a = ap (λ (es : List Step). length (draws_in es)) h.before in
+    let b = ap (λ (ds : List DrawFields). length ds) h.work.draws in let l = length-map plan.work.draws.items draw_of in
+    let c = ap (λ (b : Bool). length (settling_lines b)) h.settles in let e = ap (λ (ds : List DrawFields). length ds) (draws_at_end setting.parts) in
+    let first = count_done draws_in draws_more setting in let all = count_all draws_in draws_more setting in omega (arith, a, b, c, e, l, first, all)
 
 -- ---- the start
 
@@ -303,8 +244,7 @@ module _ (setting : Setting) (shots : List Shot) (start : Start) (u : IsBegun se
     }
 
     pub mentioned : AllMentionedIn cast (map view_happening plan.before.items)
-    mentioned =
-        subst (AllMentionedIn cast) (sym u.planned.before)
+    mentioned = subst (AllMentionedIn cast) (sym u.planned.before)
         (λ k d lt. named_in (slice_index_or (before_steps setting.parts) k d) (before_named setting.parts u.listed k d lt))
       where
         named_in : (e : Step) → IsNamed setting.parts.editors.items setting.parts.readers.items e → IsMentionedIn cast e

@@ -1,42 +1,9 @@
 -- One call of the station more in an actor's chain; and the catalogue once all passes are back, with the draws that come then.
-use Rattle.std.proofs.Common.{◌≡◌, ℕ, suc, ◌+◌, ◌<◌, ◌≤◌, Bool, true, false, nat_le, List, [], ◌∷◌, ◌++◌, map, length, Ok, refl, ap, sym, ◌∙◌, subst, arith, append_assoc, append-nil, cond, Result, Err}
-use Rattle.std.specs.Prelude.{slice_index_or}
-use Rattle.std.specs.List.{All}
-use Rattle.std.specs.declared.vec.Vec.{Vec}
-use Rattle.std.specs.declared.alloc.Global.{Global}
-use Rattle.std.proofs.lemmas.List.{map-append}
-use Rattle.std.proofs.lemmas.Bool.{leb-false}
-use Rattle.path_resolver.specs.declared.shot.Shot.{Shot}
-use Rattle.path_tree.specs.declared.tree.Edit.{Edit}
-use Rattle.ts_packet.specs.declared.Fate.{Fate}
-use Rattle.history_lock.specs.History.{Begins, total, times, once_within}
+use Rattle.session.proofs.Words.{◌≡◌, ℕ, suc, ◌+◌, ◌<◌, ◌≤◌, Bool, true, false, nat_le, List, [], ◌∷◌, ◌++◌, map, length, Ok, refl, ap, sym, ◌∙◌, subst, arith, append_assoc, append-nil, cond, Result, Err, slice_index_or, All, Vec, Global, map-append, leb-false, Shot, Edit, Fate, Begins, total, times, once_within, IsPassOf, number_of, Pass, Kept, KeptItem, Station, IsStationPass, AreAllPasses, pass_count, carousel_of, weights_of, entries_seen, owners_of, CatalogueState, IsHistory, with_draw, current_of, cursor_of, items_drawn, with_commit, IsDrawn, BatchFields, view_batch, IsCommitted, Batch, Entry, DownlinkState, Step, Drawing, drawing_of, fates_view, Seen, seen_in, Commits, Draws, DrawFields, nothing_seen, GoesOnWith, seen_after, HasShown, HasCommitted, HasFed, drawing_in, WouldBeEntered, EditorSeat, FeederSeat, commits_by, settling_lines, AllCommitted, ActorsGather, GatherGrows, IsGathered, ClosedFields, EditorsDone, HasGathered, drawn_all, InOneHold}
 use Rattle.history_lock.specs.History as histories
-use Rattle.history_lock.specs.Passes.{IsPassOf, number_of}
-use Rattle.history_lock.specs.declared.pass.Pass.{Pass}
-use Rattle.station.specs.declared.kept.Kept.{Kept}
-use Rattle.station.specs.declared.kept.KeptItem.{KeptItem}
-use Rattle.station.specs.declared.station.Station.{Station}
-use Rattle.station.specs.Passes.{IsStationPass, AreAllPasses, pass_count, carousel_of, weights_of, entries_seen, owners_of}
-use Rattle.generation_catalogue.specs.History.{CatalogueState, IsHistory, with_draw, draws_of, current_of, cursor_of, items_drawn, with_commit}
-use Rattle.generation_catalogue.specs.Calls.{IsDrawn, BatchFields, view_batch, IsCommitted}
-use Rattle.generation_catalogue.specs.declared.entry.Batch.{Batch}
-use Rattle.generation_catalogue.specs.declared.entry.Entry.{Entry}
-use Rattle.carousel_world.specs.DownView.{DownlinkState}
-use Rattle.carousel_world.specs.Events.{Step}
-use Rattle.carousel_world.specs.World.{Drawing, drawing_of}
-use Rattle.history_merge.specs.Merges.{fates_view}
-use Rattle.session.specs.Chains.{Seen, seen_in, Commits, Draws, DrawFields, nothing_seen, GoesOnWith, seen_after}
-use Rattle.session.specs.Shown.{HasShown}
-use Rattle.session.specs.Seats.{HasCommitted, HasFed, drawing_in, WouldBeEntered}
-use Rattle.session.specs.declared.editor.EditorSeat.{EditorSeat}
-use Rattle.session.specs.declared.feeder.FeederSeat.{FeederSeat}
-use Rattle.session.specs.Lines.{commits_by}
-use Rattle.session.specs.Inner.Plans.{settling_lines}
-use Rattle.session.specs.Gathering.{AllCommitted, ActorsGather, GatherGrows, IsGathered}
-use Rattle.session.specs.Inner.Ending.{ClosedFields, EditorsDone, HasGathered, drawn_all}
+use Rattle.generation_catalogue.specs.History.{draws_of}
 use Rattle.generation_catalogue.specs.declared.entry.CommitFault.{CommitFault}
 use Rattle.generation_catalogue.specs.declared.entry.CommitFault.TheVariants as commits
-use Rattle.station.specs.Calls.{InOneHold}
 
 commits_push : (id : ℕ) (ws : List ℕ) (place : ℕ) (s : Seen) (lines : List (List Edit)) (edits : List Edit) (t : Seen) (c : CatalogueState) → Commits id ws place s lines t → GoesOnWith id ws t c
     → Commits id ws place s (lines ++ edits ∷ []) (seen_after t c (with_commit c place edits))
@@ -57,8 +24,7 @@ module _ (id : ℕ) (ws : List ℕ) (p q : Pass Kept KeptItem) (Call : Catalogue
   goes_on = record { carousel = h.same; weighs = h.weighs; history = h.history; begins = h.begins }
 
   seen_then : (d : CatalogueState) → h.after ≡ d → seen_in q ≡ seen_after (seen_in p) h.before d
-  seen_then d is =
-      let now : seen_in q ≡ seen_after (seen_in p) h.before h.after = λ i. record { entries = h.seen i; own = h.own i } in
+  seen_then d is = let now : seen_in q ≡ seen_after (seen_in p) h.before h.after = λ i. record { entries = h.seen i; own = h.own i } in
       now ∙ ap (λ (x : CatalogueState). seen_after (seen_in p) h.before x) is
 
 -- ---- commits
@@ -77,9 +43,7 @@ entered c editor edits (Err commits.NoMemory) d a h = absurd a
 pub one_commit_more : {X : _} {F : _} {g : _} (s : Station X F g) (p q : Pass Kept KeptItem) (edits : List Edit) (result : Result ℕ CommitFault) → IsAnswered result → IsStationPass s q → number_of q ≡ number_of p
     → InOneHold (carousel_of s) (weights_of s) p q (λ c d. IsCommitted c (number_of p) edits result d)
     → (place : ℕ) (lines : List (List Edit)) → HasCommitted s place lines p → HasCommitted s place (lines ++ edits ∷ []) q
-one_commit_more s p q edits result answered pass number h place lines done =
-    let id = carousel_of s in
-    let ws = weights_of s in
+one_commit_more s p q edits result answered pass number h place lines done = let id = carousel_of s in let ws = weights_of s in
     let Call : CatalogueState → CatalogueState → Type 0 = λ c d. IsCommitted c (number_of p) edits result d in
     let made : h.after ≡ with_commit h.before place edits = entered h.before (number_of p) edits result h.after answered h.call ∙ ap (λ (n : ℕ). with_commit h.before n edits) done.number in
     record {
@@ -92,8 +56,7 @@ one_commit_more s p q edits result answered pass number h place lines done =
 -- out of memory comes only of a commit that would be entered
 pub would_be_entered : {X : _} {F : _} {g : _} (s : Station X F g) (p q : Pass Kept KeptItem) (edits : List Edit) (result : Result ℕ CommitFault) → result ≡ Err commits.NoMemory
     → InOneHold (carousel_of s) (weights_of s) p q (λ c d. IsCommitted c (number_of p) edits result d) → WouldBeEntered s p edits
-would_be_entered s p q edits result none h =
-    let Call : CatalogueState → CatalogueState → Type 0 = λ c d. IsCommitted c (number_of p) edits result d in
+would_be_entered s p q edits result none h = let Call : CatalogueState → CatalogueState → Type 0 = λ c d. IsCommitted c (number_of p) edits result d in
     (h.before, goes_on (carousel_of s) (weights_of s) p q Call h, h.call.memory none)
 
 -- ---- draws
@@ -111,11 +74,8 @@ pub one_draw_more : {X : _} {F : _} {g : _} (s : Station X F g) (line : DrawFiel
     → ((drawings : List Drawing) → HasShown drawings old.downlink before → HasShown (drawings ++ drawing_in b fates.items ∷ []) new.downlink after)
     → new.fates.items ≡ old.fates.items ++ fates ∷ []
     → (lines : List DrawFields) → HasFed s lines old before → HasFed s (lines ++ line ∷ []) new after
-one_draw_more s line old new before after b fates under pass h shows pushed lines done =
-    let id = carousel_of s in
-    let ws = weights_of s in
-    let Call : CatalogueState → CatalogueState → Type 0 = λ c d. IsDrawn c line.asked (Ok b) d in
-    let c = h.before in
+one_draw_more s line old new before after b fates under pass h shows pushed lines done = let id = carousel_of s in let ws = weights_of s in
+    let Call : CatalogueState → CatalogueState → Type 0 = λ c d. IsDrawn c line.asked (Ok b) d in let c = h.before in
     let fields : BatchFields = record { generation = current_of c; first = cursor_of c; items = items_drawn c line.asked } in
     let parts = given (nat_le 16777216 (draws_of c)) 16777216 fields (view_batch b) h.call.answer in
     let made : drawing_in b fates.items ≡ drawing_of c line.asked line.fates =
@@ -177,8 +137,7 @@ pub gathered_of : ActorsGather → {X : _} {F : _} {g : _} (s : Station X F g) (
     → (numbers : List ℕ) (events : List Step) (draws : List DrawFields) (shots : List Shot) → EditorsDone s numbers events editors → HasFed s draws feeder shots
     → HasGathered (carousel_of s) (weights_of s) (map (λ (n : ℕ). commits_by n events) numbers) draws shots (record { catalogue = c; downlink = feeder.downlink; fates = map fates_view feeder.fates.items })
 gathered_of law s editors feeder passes c all carousel weighs history seen owned numbers events draws shots done fed =
-    let commits = map (λ (n : ℕ). commits_by n events) numbers in
-    record {
+    let commits = map (λ (n : ℕ). commits_by n events) numbers in record {
       carousel = carousel;
       weighs = weighs;
       drawings = fed.drawings;
@@ -206,8 +165,7 @@ pub one_more : GatherGrows → (old : ClosedFields) (c : CatalogueState) (downli
     → (id : ℕ) (weights : List ℕ) (commits : List (List (List Edit))) (draws : List DrawFields) → HasGathered id weights commits draws before old
     → HasGathered id weights commits (draws ++ record { asked = asked; fates = fates.items } ∷ []) after (record { catalogue = c; downlink = downlink; fates = map fates_view kept })
 one_more law old c downlink earlier kept asked fates given_fates b before after had under least most h shows pushed id weights commits draws g =
-    let from = old.catalogue in
-    let line : DrawFields = record { asked = asked; fates = fates.items } in
+    let from = old.catalogue in let line : DrawFields = record { asked = asked; fates = fates.items } in
     let fields : BatchFields = record { generation = current_of from; first = cursor_of from; items = items_drawn from asked } in
     let parts = given (nat_le 16777216 (draws_of from)) 16777216 fields (view_batch b) h.answer in
     let is : drawing_in b given_fates ≡ drawing_of from asked fates.items = ap (λ (x : BatchFields). drawing x given_fates) (sym parts.1) ∙ ap (drawing fields) under in
@@ -261,8 +219,7 @@ module _ (b : Bool) (is : b ≡ true) where
 -- the passes that go back are all of the station
 pub all_passes : {X : _} {F : _} {g : _} (s : Station X F g) (editors : List EditorSeat) (feeder : FeederSeat) (passes : List (Pass Kept KeptItem)) → passes ≡ map pass_in editors ++ feeder.pass ∷ []
     → pass_count s ≡ length editors + 1 → All (λ (seat : EditorSeat). IsStationPass s seat.pass) editors → IsStationPass s feeder.pass → AreAllPasses s passes
-all_passes s editors feeder passes is count each last =
-    let P : List (Pass Kept KeptItem) → Type 0 = AreAllPasses s in
+all_passes s editors feeder passes is count each last = let P : List (Pass Kept KeptItem) → Type 0 = AreAllPasses s in
     subst P (sym is) (every editors each, all_counted)
   where
     every : (es : List EditorSeat) → All (λ (seat : EditorSeat). IsStationPass s seat.pass) es → histories.Each (IsPassOf s.lock) (map pass_in es ++ feeder.pass ∷ [])

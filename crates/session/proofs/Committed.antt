@@ -1,19 +1,6 @@
 -- Each editor's commits in the history are its lines in order, but for those that found no room.
-use Rattle.std.proofs.Common.{◌≡◌, ◌≢◌, ℕ, zero, suc, ◌<◌, cond, List, [], ◌∷◌, ◌++◌, length, map, get_or, Some, slice_get, Contains, Ok, Err, ◌⊎◌, inl, inr, ap, ◌∙◌, refl, subst, arith}
-use Rattle.std.proofs.lemmas.List.{get_or_default}
-use mathlib.Core.Logic.{dite}
-use native.Mathlib.Decide.{ℕ_discrete}
-use Rattle.ts_packet.specs.declared.Fate.{Fate}
-use Rattle.path_tree.specs.declared.tree.Edit.{Edit}
-use Rattle.generation_catalogue.specs.History.{put_bytes_of}
-use Rattle.generation_catalogue.specs.declared.entry.Entry.{Entry}
+use Rattle.session.proofs.Words.{◌≡◌, ◌≢◌, ℕ, zero, suc, ◌<◌, cond, List, [], ◌∷◌, ◌++◌, length, map, get_or, Some, slice_get, Contains, Ok, Err, ◌⊎◌, inl, inr, ap, ◌∙◌, refl, subst, arith, get_or_default, dite, ℕ_discrete, Fate, Edit, put_bytes_of, Entry, Commit, commit_reply, event_of, AreNumbers, is_made, IsFullAfter, AreEntered, entries_to_next, IsFull, AreCommitted, up_to_next, is_accepted, put_by_step}
 use Rattle.generation_catalogue.specs.declared.entry.Entry.TheVariants as entries
-use Rattle.carousel_world.specs.Events.{Commit}
-use Rattle.carousel_world.specs.World.{commit_reply}
-use Rattle.history_merge.specs.Merging.{event_of}
-use Rattle.history_merge.specs.Merged.{AreNumbers}
-use Rattle.session.specs.Gathering.{is_made, IsFullAfter, AreEntered, entries_to_next}
-use Rattle.session.specs.Sessions.{IsFull, AreCommitted, up_to_next, is_accepted, put_by_step}
 use Rattle.session.proofs.Telling.{Told, IsToldBy, Tells, tells_append, tells_cut, sum_told, none_told, tells_to_next}
 
 accepted_same : (editors : List ℕ) (e : Entry) (fates : List Fate) → cond {A = ℕ} (is_accepted (event_of editors e fates).1) 1 0 ≡ cond {A = ℕ} (is_made e) 1 0
@@ -35,14 +22,9 @@ full_told editors es told edits h (inr full) =
 pub committed : (editors : List ℕ) → AreNumbers editors → (place : ℕ) → place < length editors → (lines : List (List Edit)) (up es : List Entry) (before told : List Told)
     → Tells editors up before → Tells editors es told → AreEntered place up lines es → AreCommitted (get_or editors place 0) before lines told
 committed editors n place within [] up es before told b h none = none_told editors n place within es told h none
-committed editors n place within (edits ∷ lines) up es before told b h (inl r) =
-    let between = r.0 in
-    let outcome = r.1 in
-    let later = r.2 in
-    let e : Entry = entries.Commit place edits outcome in
-    let cut = tells_cut editors between later e told (subst (λ l. Tells editors l told) r.3 h) in
-    let x : Told = (Commit (get_or editors place 0) edits, commit_reply outcome) in
-    let is : cut.1 ≡ x = (cut.5).1 in
+committed editors n place within (edits ∷ lines) up es before told b h (inl r) = let between = r.0 in let outcome = r.1 in let later = r.2 in
+    let e : Entry = entries.Commit place edits outcome in let cut = tells_cut editors between later e told (subst (λ l. Tells editors l told) r.3 h) in
+    let x : Told = (Commit (get_or editors place 0) edits, commit_reply outcome) in let is : cut.1 ≡ x = (cut.5).1 in
     let one : Tells editors (e ∷ []) (x ∷ []) = inr (e, [], refl, subst (λ y. IsToldBy editors e y) is cut.5, refl) in
     let longer : Tells editors (up ++ between ++ e ∷ []) (before ++ cut.0 ++ x ∷ []) =
     tells_append editors (up ++ between) (e ∷ []) (before ++ cut.0) (x ∷ []) (tells_append editors up between before cut.0 b cut.4) one in
@@ -54,8 +36,7 @@ committed editors n place within (edits ∷ lines) up es before told b h (inl r)
       none_told editors n place within between cut.0 cut.4 r.4,
       committed editors n place within lines (up ++ between ++ e ∷ []) later (before ++ cut.0 ++ x ∷ []) cut.2 longer cut.6 r.5,
     )
-committed editors n place within (edits ∷ lines) up es before told b h (inr r) =
-    let next = tells_to_next editors n place within es told h in
+committed editors n place within (edits ∷ lines) up es before told b h (inr r) = let next = tells_to_next editors n place within es told h in
     let part = tells_append editors up (entries_to_next place es) before (up_to_next (get_or editors place 0) told) b next in
     inr (full_told editors (up ++ entries_to_next place es) (before ++ up_to_next (get_or editors place 0) told) edits part r.0, committed editors n place within lines up es before told b h r.1)
 

@@ -1,15 +1,6 @@
 -- How many of the first events are draws, and how many are opens of a reader.
-use Rattle.std.proofs.Common.{◌≡◌, ◌≢◌, ℕ, ◌+◌, ◌<◌, ◌≤◌, ◌==◌, Bool, true, false, List, [], ◌∷◌, ◌++◌, map, take, length, refl, sym, ap, ◌∙◌, arith, length-append, inl, inr}
-use Rattle.std.specs.Prelude.{slice_index_or, if◌then◌else◌}
-use Rattle.std.proofs.lemmas.List.{length-map, length-take-le, map-append, take_more}
-use Rattle.std.proofs.lemmas.Bool.{cases_Bool}
-use Rattle.path_tree.specs.Paths.{PathNames}
-use Rattle.carousel_world.specs.Events.{Step, Commit, Draw, Open}
-use Rattle.session.specs.Chains.{DrawFields}
-use Rattle.rehearsal.specs.declared.interpreter.Happening.{Happening}
+use Rattle.session.proofs.Words.{◌≡◌, ◌≢◌, ℕ, ◌+◌, ◌<◌, ◌≤◌, ◌==◌, Bool, true, false, List, [], ◌∷◌, ◌++◌, map, take, length, refl, sym, ap, ◌∙◌, arith, length-append, inl, inr, slice_index_or, if◌then◌else◌, length-map, length-take-le, map-append, take_more, cases_Bool, PathNames, Step, Commit, Draw, Open, DrawFields, Happening, draws_in, opens_by, view_happening}
 use Rattle.rehearsal.specs.declared.interpreter.Happening.TheVariants as deeds
-use Rattle.session.specs.Lines.{draws_in, opens_by}
-use Rattle.session.specs.Inner.Acting.{view_happening}
 use Rattle.session.proofs.Staged.{draws_more, opens_more}
 
 -- ---- there are no more than events
@@ -56,9 +47,7 @@ module _ (events : List Happening) (i : ℕ) (e : Happening) (lt : i < length ev
 
   module _ (is : e ≡ slice_index_or events i e) where
     one_more : more ≡ first ++ view_happening e ∷ []
-    one_more =
-        ap (map view_happening) (take_more events i e lt)
-        ∙ map-append view_happening (take i events) (slice_index_or events i e ∷ [])
+    one_more = ap (map view_happening) (take_more events i e lt) ∙ map-append view_happening (take i events) (slice_index_or events i e ∷ [])
         ∙ ap (λ (x : Happening). first ++ view_happening x ∷ []) (sym is)
 
     draws_now : length (draws_in more) ≡ length (draws_in first) + length (draws_in (view_happening e ∷ []))

@@ -1,33 +1,11 @@
 -- The seats of the editors, after one event more.
-use Rattle.std.proofs.Common.{◌≡◌, ◌≢◌, arith, ℕ, zero, suc, ◌+◌, ◌<◌, Bool, List, [], ◌∷◌, ◌++◌, map, take, length, refl, sym, ap, ◌∙◌, subst, ne_eqb, eq-eqb, append-nil}
-use Rattle.std.specs.Prelude.{slice_set, slice_index_or, if◌then◌else◌}
-use Rattle.std.proofs.lemmas.List.{get_or-map, get_or-set_other, length-set, length-map}
-use Rattle.std.proofs.lemmas.Grind.{get_or-set_at}
-use Rattle.std.proofs.Math.Seq.{map-set_same}
-use mathlib.Core.Logic.{dite}
-use native.Mathlib.Decide.{ℕ_discrete}
-use Rattle.std.specs.List.{All}
-use Rattle.station.specs.Passes.{IsStationPass, AreNewPasses, entries_seen, own_entries}
-use Rattle.history_lock.specs.Passes.{number_of}
-use Rattle.std.proofs.lemmas.List.{take_more, take_all, length-append}
-use Rattle.path_tree.specs.declared.tree.Edit.{Edit}
-use Rattle.carousel_world.specs.Events.{Step, Commit}
-use Rattle.station.specs.declared.station.Station.{Station}
-use Rattle.station.specs.declared.kept.Kept.{Kept}
-use Rattle.station.specs.declared.kept.KeptItem.{KeptItem}
-use Rattle.history_lock.specs.declared.pass.Pass.{Pass}
-use Rattle.session.specs.Seats.{HasCommitted, IsEditorSeat, edits_of}
-use Rattle.session.specs.declared.editor.EditorSeat.{EditorSeat}
-use Rattle.session.specs.Lines.{commits_by}
-use Rattle.session.specs.Inner.Acting.{AreApart, EditorStands, EditorsStand, editor_plan, numbers_of, planned_for}
+use Rattle.session.proofs.Words.{◌≡◌, ◌≢◌, arith, ℕ, zero, suc, ◌+◌, ◌<◌, Bool, List, [], ◌∷◌, ◌++◌, map, take, length, refl, sym, ap, ◌∙◌, subst, ne_eqb, eq-eqb, append-nil, slice_set, slice_index_or, if◌then◌else◌, get_or-map, get_or-set_other, length-set, length-map, get_or-set_at, map-set_same, dite, ℕ_discrete, All, IsStationPass, AreNewPasses, entries_seen, own_entries, number_of, take_more, take_all, length-append, Edit, Step, Commit, Station, Kept, KeptItem, Pass, HasCommitted, IsEditorSeat, edits_of, EditorSeat, commits_by, AreApart, EditorStands, EditorsStand, editor_plan, numbers_of, planned_for}
 use Rattle.session.proofs.Staged.{commits_more}
 
 -- an event that is no commit of the editor
 pub editor_idles : {X : _} {F : _} {g : _} (s : Station X F g) (place : ℕ) (done : List Step) (seat : EditorSeat) (e : Step) → commits_by seat.number (e ∷ []) ≡ []
     → EditorStands s place done seat → EditorStands s place (done ++ e ∷ []) seat
-editor_idles s place done seat e none st =
-    let n = seat.number in
-    subst (λ (lines : List (List Edit)). HasCommitted s place lines seat.pass)
+editor_idles s place done seat e none st = let n = seat.number in subst (λ (lines : List (List Edit)). HasCommitted s place lines seat.pass)
     (sym (commits_more n done (e ∷ []) ∙ ap (λ (xs : List (List Edit)). commits_by n done ++ xs) none ∙ append-nil (commits_by n done))) st
 
 pub editors_idle : {X : _} {F : _} {g : _} (s : Station X F g) (done : List Step) (seats : List EditorSeat) (e : Step) → ((n : ℕ) → commits_by n (e ∷ []) ≡ [])
@@ -43,9 +21,7 @@ not_its n m edits ne = ap (λ (t : Bool). (if t then edits ∷ [] else []) ++ []
 -- a commit of the editor, which it made
 pub editor_committed : {X : _} {F : _} {g : _} (s : Station X F g) (place : ℕ) (done : List Step) (old new : EditorSeat) (edits : List Edit) → new.number ≡ old.number
     → HasCommitted s place (commits_by old.number done ++ edits ∷ []) new.pass → EditorStands s place (done ++ Commit old.number edits ∷ []) new
-editor_committed s place done old new edits same made =
-    let n = old.number in
-    subst (λ (lines : List (List Edit)). HasCommitted s place lines new.pass)
+editor_committed s place done old new edits same made = let n = old.number in subst (λ (lines : List (List Edit)). HasCommitted s place lines new.pass)
     (ap (λ (xs : List (List Edit)). commits_by n done ++ xs) (sym (its n edits)) ∙ sym (commits_more n done (Commit n edits ∷ []))
     ∙ ap (λ (m : ℕ). commits_by m (done ++ Commit n edits ∷ [])) (sym same)) made
 
@@ -61,8 +37,7 @@ module _ {X : _} {F : _} {g : _} (s : Station X F g) (seats : List EditorSeat) (
       → ((k : ℕ) (seat : EditorSeat) → seat.number ≢ was.number → EditorStands s k done seat → EditorStands s k after seat)
       → EditorsStand s done seats → EditorsStand s after (slice_set seats place new)
   seat_set done after its others st = λ k d lt.
-      let below : k < length seats = let e = length-set seats place new in omega (arith, e, lt) in
-      dite (ℕ_discrete k place)
+      let below : k < length seats = let e = length-set seats place new in omega (arith, e, lt) in dite (ℕ_discrete k place)
       (λ e. let here : slice_index_or (slice_set seats place new) k d ≡ new = get_or-set_at seats place k new d e there in
       subst (λ (seat : EditorSeat). EditorStands s k after seat) (sym here) (subst (λ (n : ℕ). EditorStands s n after new) (sym e) its))
       (λ ne. subst (λ (seat : EditorSeat). EditorStands s k after seat) (sym (get_or-set_other seats place k new d ne))
@@ -72,14 +47,12 @@ module _ {X : _} {F : _} {g : _} (s : Station X F g) (seats : List EditorSeat) (
       (st k d below)))
 
   pub plans_set : new.commits ≡ was.commits → map editor_plan (slice_set seats place new) ≡ map editor_plan seats
-  plans_set laid =
-      let alike : editor_plan new ≡ editor_plan was = λ i. record { editor = same i; commits = map edits_of (laid i).items } in
+  plans_set laid = let alike : editor_plan new ≡ editor_plan was = λ i. record { editor = same i; commits = map edits_of (laid i).items } in
       map-set_same editor_plan seats place new was (alike ∙ ap editor_plan is)
 
   pub passes_set : IsStationPass s new.pass → All (IsEditorSeat s) seats → All (IsEditorSeat s) (slice_set seats place new)
   passes_set its all = λ k d lt.
-      let below : k < length seats = let e = length-set seats place new in omega (arith, e, lt) in
-      dite (ℕ_discrete k place)
+      let below : k < length seats = let e = length-set seats place new in omega (arith, e, lt) in dite (ℕ_discrete k place)
       (λ e. subst (λ (seat : EditorSeat). IsEditorSeat s seat) (sym (get_or-set_at seats place k new d e there)) its)
       (λ ne. subst (λ (seat : EditorSeat). IsEditorSeat s seat) (sym (get_or-set_other seats place k new d ne)) (all k d below))
 
@@ -90,8 +63,7 @@ module _ {X : _} {F : _} {g : _} (s : Station X F g) (seats : List EditorSeat) (
   pub committed_now : (editor : ℕ) (edits : List Edit) → was.number ≡ editor
       → ((place' : ℕ) (lines : List (List Edit)) → HasCommitted s place' lines was.pass → HasCommitted s place' (lines ++ edits ∷ []) new.pass)
       → (done : List Step) → EditorsStand s done seats → EditorsStand s (done ++ Commit editor edits ∷ []) (slice_set seats place new)
-  committed_now editor edits its made done st =
-      seat_set done (done ++ Commit editor edits ∷ [])
+  committed_now editor edits its made done st = seat_set done (done ++ Commit editor edits ∷ [])
       (subst (λ (n : ℕ). EditorStands s place (done ++ Commit n edits ∷ []) new) its
       (editor_committed s place done was new edits same (made place (commits_by was.number done) (stands_was done st))))
       (λ k seat ne stands. editor_idles s k done seat (Commit editor edits) (not_its seat.number editor edits (λ e. ne (sym e ∙ sym its))) stands)
@@ -124,8 +96,7 @@ module _ (f : ℕ → List (List Edit)) where
   pub seats_more : (numbers : List ℕ) (ps : List (Pass Kept KeptItem)) (ss : List EditorSeat) (p : Pass Kept KeptItem) (s : EditorSeat) → length ps < length numbers
       → s.number ≡ slice_index_or numbers (length ss) s.number → s.pass ≡ p → map edits_of s.commits.items ≡ f s.number
       → AreNewSeats f (take (length ps) numbers) ps ss → AreNewSeats f (take (length (ps ++ p ∷ [])) numbers) (ps ++ p ∷ []) (ss ++ s ∷ [])
-  seats_more numbers ps ss p s lt number pass laid h =
-      let count = new_seats_count (take (length ps) numbers) ps ss h in
+  seats_more numbers ps ss p s lt number pass laid h = let count = new_seats_count (take (length ps) numbers) ps ss h in
       let e : take (length (ps ++ p ∷ [])) numbers ≡ take (length ps) numbers ++ s.number ∷ [] =
       ap (λ (k : ℕ). take k numbers) (length-append ps (p ∷ [])) ∙ take_more numbers (length ps) s.number lt
       ∙ ap (λ (n : ℕ). take (length ps) numbers ++ n ∷ []) (sym (number ∙ ap (λ (k : ℕ). slice_index_or numbers k s.number) count)) in
@@ -133,8 +104,7 @@ module _ (f : ℕ → List (List Edit)) where
 
   pub new_plans : (ns : List ℕ) (ps : List (Pass Kept KeptItem)) (ss : List EditorSeat) → AreNewSeats f ns ps ss → map editor_plan ss ≡ map (planned_for f) ns
   new_plans [] [] [] h = refl
-  new_plans (n ∷ ns) (p ∷ ps) (s ∷ ss) h =
-      let first : editor_plan s ≡ planned_for f n = λ i. record { editor = h.0 i; commits = h.2 i } in
+  new_plans (n ∷ ns) (p ∷ ps) (s ∷ ss) h = let first : editor_plan s ≡ planned_for f n = λ i. record { editor = h.0 i; commits = h.2 i } in
       (λ i. first i ∷ new_plans ns ps ss h.3 i)
   new_plans [] [] (s ∷ ss) h = absurd h
   new_plans [] (p ∷ ps) ss h = absurd h
@@ -143,8 +113,7 @@ module _ (f : ℕ → List (List Edit)) where
 
   new_stands : {X : _} {F : _} {g : _} (station : Station X F g) (place : ℕ) (p : Pass Kept KeptItem) (s : EditorSeat) → s.pass ≡ p → IsStationPass station p → number_of p ≡ place → entries_seen p ≡ [] → own_entries p ≡ []
       → EditorStands station place [] s
-  new_stands station place p s same pass number entries own =
-      subst (λ (q : Pass Kept KeptItem). HasCommitted station place [] q) (sym same)
+  new_stands station place p s same pass number entries own = subst (λ (q : Pass Kept KeptItem). HasCommitted station place [] q) (sym same)
       (record { pass = pass; number = number; commits = λ i. record { entries = entries i; own = own i } })
 
   -- seats with the passes that a station is made with

@@ -1,18 +1,6 @@
 -- What an actor of a station enters, one entry after another.
-use Rattle.std.proofs.Common.{◌≡◌, ℕ, ◌-◌, ◌<◌, ◌==◌, Bool, true, false, cond, List, [], ◌∷◌, ◌++◌, length, Some, slice_get, ◌⊎◌, inl, inr, sym, ap, ◌∙◌, refl, subst, arith, append-nil, length-append}
-use Rattle.std.proofs.lemmas.Bool.{cases_Bool}
-use mathlib.Core.Logic.{dite}
-use native.Mathlib.Decide.{ℕ_discrete}
-use Rattle.path_tree.specs.declared.tree.Edit.{Edit}
-use Rattle.history_lock.specs.History.{Begins, times, places}
-use Rattle.generation_catalogue.specs.History.{CatalogueState, with_commit, with_draw, current_of, cursor_of, count_drawn, outcome_of, is_entered, with_entry, is_draw}
-use Rattle.generation_catalogue.specs.declared.entry.Entry.{Entry}
+use Rattle.session.proofs.Words.{◌≡◌, ℕ, ◌-◌, ◌<◌, ◌==◌, Bool, true, false, cond, List, [], ◌∷◌, ◌++◌, length, Some, slice_get, ◌⊎◌, inl, inr, sym, ap, ◌∙◌, refl, subst, arith, append-nil, length-append, cases_Bool, dite, ℕ_discrete, Edit, Begins, times, places, CatalogueState, with_commit, with_draw, current_of, cursor_of, count_drawn, outcome_of, is_entered, with_entry, is_draw, Entry, Drawing, Each, is_commit_at, get_next, Seen, seen_after, Commits, Draws, DrawFields}
 use Rattle.generation_catalogue.specs.declared.entry.Entry.TheVariants as entries
-use Rattle.carousel_world.specs.World.{Drawing}
-use Rattle.history_merge.specs.Merging.{Each}
-use Rattle.history_merge.specs.Merged.{is_commit_at}
-use Rattle.history_merge.proofs.CallerLemmas.{get_next}
-use Rattle.session.specs.Chains.{Seen, seen_after, Commits, Draws, DrawFields}
 use Rattle.session.proofs.Lists.{begins_self, begins_more, begins_on, begins_le, begins_get, times_append, times_other}
 
 -- all that came before, and one entry of one's own
@@ -43,24 +31,17 @@ enters_begins s (e ∷ es) t h =
 -- nothing becomes one's own among what was seen
 pub enters_keeps : (s : Seen) (es : List Entry) (t : Seen) → Enters s es t → (k : ℕ) → k < length s.entries → times k t.own ≡ times k s.own
 enters_keeps s [] t h k below = ap (times k) h.1
-enters_keeps s (e ∷ es) t h k below =
-    let before = h.0 in
-    let le = begins_le s.entries before h.1 in
-    let long = length-append before (e ∷ []) in
+enters_keeps s (e ∷ es) t h k below = let before = h.0 in let le = begins_le s.entries before h.1 in let long = length-append before (e ∷ []) in
     let rest : times k t.own ≡ times k (s.own ++ length before ∷ []) = enters_keeps (seen_with s before e) es t h.2 k (omega (arith, le, long, below)) in
-    let parts = times_append k s.own (length before ∷ []) in
-    let other = times_other k (length before) (λ e. omega (arith, e, le, below)) in
+    let parts = times_append k s.own (length before ∷ []) in let other = times_other k (length before) (λ e. omega (arith, e, le, below)) in
     omega (arith, rest, parts, other)
 
 -- what became one's own is one of the entries
 pub enters_own : (P : Entry → Type 0) (s : Seen) (es : List Entry) (t : Seen) (history : List Entry) → Enters s es t → Each P es → Begins t.entries history
     → (k : ℕ) → times k s.own < times k t.own → (e : Entry) × (slice_get history k ≡ Some e) × P e
 enters_own P s [] t history h each begins k more = absurd (let e = ap (times k) h.1 in omega (arith, e, more))
-enters_own P s (e ∷ es) t history h each begins k more =
-    let before = h.0 in
-    let next = seen_with s before e in
-    let parts = times_append k s.own (length before ∷ []) in
-    dite (ℕ_discrete k (length before))
+enters_own P s (e ∷ es) t history h each begins k more = let before = h.0 in let next = seen_with s before e in
+    let parts = times_append k s.own (length before ∷ []) in dite (ℕ_discrete k (length before))
     (λ here.
     let all : Begins (before ++ e ∷ []) history = begins_on (before ++ e ∷ []) t.entries history (enters_begins next es t h.2) begins in
     (e, ap (slice_get history) here ∙ begins_get (before ++ e ∷ []) history (length before) e all (get_next before [] e), each.0))
@@ -115,18 +96,15 @@ HasEntered P s t = (es : List Entry) × Enters s es t × Each P es
 
 pub commits_enter : (id : ℕ) (ws : List ℕ) (place : ℕ) (lines : List (List Edit)) (s t : Seen) → (place == place) ≡ true → Commits id ws place s lines t → HasEntered (IsCommitAt place) s t
 commits_enter id ws place [] s t itself h = ([], subst (λ (u : Seen). Enters s [] u) (sym h) (enters_none s), tt)
-commits_enter id ws place (edits ∷ lines) s t itself h =
-    by (first_commit id ws place s edits lines t h)
+commits_enter id ws place (edits ∷ lines) s t itself h = by (first_commit id ws place s edits lines t h)
     (λ r. commits_enter id ws place lines (seen_with s (h.0).entries (entries.Commit place edits (outcome_of h.0 edits))) t itself r)
     (λ r. commits_enter id ws place lines (seen_of s (h.0).entries) t itself r)
   where
-    by : Commits1 id ws place s edits lines t h.0
-        → (Commits id ws place (seen_with s (h.0).entries (entries.Commit place edits (outcome_of h.0 edits))) lines t
+    by : Commits1 id ws place s edits lines t h.0 → (Commits id ws place (seen_with s (h.0).entries (entries.Commit place edits (outcome_of h.0 edits))) lines t
         → HasEntered (IsCommitAt place) (seen_with s (h.0).entries (entries.Commit place edits (outcome_of h.0 edits))) t)
         → (Commits id ws place (seen_of s (h.0).entries) lines t → HasEntered (IsCommitAt place) (seen_of s (h.0).entries) t)
         → HasEntered (IsCommitAt place) s t
-    by (inl e) with_it without =
-        let r = with_it e.1 in
+    by (inl e) with_it without = let r = with_it e.1 in
         (entries.Commit place edits (outcome_of h.0 edits) ∷ r.0, ((h.0).entries, (h.1).begins, r.1), (itself, r.2))
     by (inr e) with_it without = let r = without e.1 in (r.0, enters_later s (h.0).entries r.0 t (h.1).begins r.1, r.2)
 
@@ -137,8 +115,7 @@ draw_entry c asked = entries.Draw asked (current_of c).number (cursor_of c) (cou
 
 pub first_draw : (id : ℕ) (ws : List ℕ) (s : Seen) (l : DrawFields) (lines : List DrawFields) (d : Drawing) (ds : List Drawing) (t : Seen) → (h : Draws id ws s (l ∷ lines) (d ∷ ds) t)
     → Draws id ws (seen_with s (h.0).entries (draw_entry h.0 l.asked)) lines ds t
-first_draw id ws s l lines d ds t h =
-    let c : CatalogueState = h.0 in
+first_draw id ws s l lines d ds t h = let c : CatalogueState = h.0 in
     let one : length (c.entries ++ draw_entry c l.asked ∷ []) - length c.entries ≡ 1 = omega (arith, length-append c.entries (draw_entry c l.asked ∷ [])) in
     let same : seen_after s c (with_draw c l.asked) ≡ seen_with s c.entries (draw_entry c l.asked) =
     (λ i. record { entries = c.entries ++ draw_entry c l.asked ∷ []; own = s.own ++ places (length c.entries) (one i) }) in

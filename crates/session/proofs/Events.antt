@@ -1,18 +1,6 @@
 -- Events above `start`, one after another.
-use Rattle.std.proofs.Common.{◌≡◌, ◌<◌, suc, List, [], ◌∷◌, ◌++◌, map, length, take, drop, get_or, sym, ap, ◌∙◌, subst, arith}
-use Rattle.std.specs.List.{All}
-use Rattle.std.proofs.lemmas.List.{take-append-drop, map-append}
-use Rattle.std.proofs.Math.Seq.{drop-cons}
+use Rattle.session.proofs.Words.{◌≡◌, ◌<◌, suc, List, [], ◌∷◌, ◌++◌, map, length, take, drop, get_or, sym, ap, ◌∙◌, subst, arith, All, take-append-drop, map-append, drop-cons, Shot, Station, Step, InRange, Happening, Cast, AreInRange, before_steps, IsNext, Setting, view_happening, AllMentionedIn, AreSameActors, CastStands, IsMentionedIn}
 use Rattle.session.proofs.Begun.{mentioned_in}
-use Rattle.path_resolver.specs.declared.shot.Shot.{Shot}
-use Rattle.station.specs.declared.station.Station.{Station}
-use Rattle.carousel_world.specs.Events.{Step}
-use Rattle.carousel_world.specs.World.{InRange}
-use Rattle.rehearsal.specs.declared.interpreter.Happening.{Happening}
-use Rattle.session.specs.declared.cast.Cast.{Cast}
-use Rattle.session.specs.Inner.Plans.{AreInRange, before_steps}
-use Rattle.session.specs.Inner.Acting.{IsNext, Setting, view_happening}
-use Rattle.session.specs.Inner.Casting.{AllMentionedIn, AreSameActors, CastStands, IsMentionedIn}
 
 -- so far these happened
 abbrev pub HasActed : {X : _} {F : _} {g : _} → Station X F g → (all yielded : List Happening) → (shots shown : List Shot) → (old new : Cast) → Type 0
@@ -25,19 +13,15 @@ same_twice a b c s t = record { editors = t.editors ∙ s.editors; draws = t.dra
 module _ (items yielded : List Happening) (x : Happening) (far : yielded ≡ take (length yielded) items) (lt : length yielded < length items) (at' : x ≡ get_or items (length yielded) x) where
   -- the next one stands after those
   split : items ≡ yielded ++ x ∷ drop (suc (length yielded)) items
-  split =
-      let k = length yielded in
+  split = let k = length yielded in
       sym (take-append-drop k items) ∙ (λ i. sym far i ++ (drop-cons items k x lt ∙ ap (λ (y : Happening). y ∷ drop (suc k) items) (sym at')) i)
 
   pub next_in : (setting : Setting) → map view_happening items ≡ before_steps setting.parts → IsNext setting (map view_happening yielded) (view_happening x)
-  next_in setting same =
-      let left = drop (suc (length yielded)) items in
+  next_in setting same = let left = drop (suc (length yielded)) items in
       (map view_happening left, sym same ∙ ap (map view_happening) split ∙ map-append view_happening yielded (x ∷ left))
 
   each_of : (P : Step → Type 0) → All P (map view_happening items) → P (view_happening x)
-  each_of P all =
-      let left = drop (suc (length yielded)) items in
-      among (map view_happening yielded) (view_happening x) (map view_happening left)
+  each_of P all = let left = drop (suc (length yielded)) items in among (map view_happening yielded) (view_happening x) (map view_happening left)
       (subst (λ (es : List Step). All P es) (ap (map view_happening) split ∙ map-append view_happening yielded (x ∷ left)) all)
     where
       among : (before : List Step) (y : Step) (after : List Step) → All P (before ++ y ∷ after) → P y

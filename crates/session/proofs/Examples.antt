@@ -1,17 +1,8 @@
 -- A script's lines by their actors: worked examples.
-use Rattle.std.proofs.Common.{◌≡◌, ℕ, true, List, [], ◌∷◌, refl}
-use Rattle.ts_packet.specs.declared.Fate.{Fate}
+use Rattle.session.proofs.Words.{◌≡◌, ℕ, true, List, [], ◌∷◌, refl, Fate, PathNames, Stage, Before, During, After, Act, LineFields, Fields, events_of, DrawFields, Asked, commits_by, draws_in, asked_of, draws_before_start, settles}
 use Rattle.ts_packet.specs.declared.Fate.TheVariants.{Keep, Lose}
-use Rattle.path_tree.specs.Paths.{PathNames}
 use Rattle.path_tree.specs.declared.tree.Edit.TheVariants as edits
-use Rattle.session_script.specs.declared.script.Stage.{Stage}
-use Rattle.session_script.specs.declared.script.Stage.TheVariants.{Before, During, After}
-use Rattle.session_script.specs.Scripts.{Act, LineFields, Fields}
 use Rattle.session_script.specs.Scripts as acts
-use Rattle.rehearsal.specs.Lines.{events_of}
-use Rattle.session.specs.Chains.{DrawFields}
-use Rattle.session.specs.Opened.{Asked}
-use Rattle.session.specs.Lines.{commits_by, draws_in, asked_of, draws_before_start, settles}
 
 abbrev file : PathNames
 file = (120 ∷ []) ∷ []

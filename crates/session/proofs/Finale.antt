@@ -1,41 +1,6 @@
 -- From what is left of a session to the whole of it.
-use Rattle.std.proofs.Common.{◌≡◌, ℕ, suc, ◌+◌, ◌≤◌, ◌==◌, Bool, List, [], ◌∷◌, ◌++◌, map, length, refl, ap, sym, ◌∙◌, subst, arith, append-nil, inl, inr}
-use Rattle.std.specs.Prelude.{slice_index_or, is_some}
-use Rattle.std.specs.List.{All, count_by}
-use Rattle.std.specs.declared.vec.Vec.{Vec}
-use Rattle.std.specs.declared.alloc.Global.{Global}
-use Rattle.std.proofs.lemmas.Bool.{cases_Bool}
+use Rattle.session.proofs.Words.{◌≡◌, ℕ, suc, ◌+◌, ◌≤◌, ◌==◌, Bool, List, [], ◌∷◌, ◌++◌, map, length, refl, ap, sym, ◌∙◌, subst, arith, append-nil, inl, inr, slice_index_or, is_some, All, count_by, Vec, Global, cases_Bool, PathNames, Edit, Fate, Shot, Book, ReaderView, Station, carousel_of, weights_of, Entry, Step, Commit, Draw, Open, Stage, Fields, script_of_parts, events_of, merge_of, fates_view, AreParts, DrawFields, Asked, HasOpened, HasFed, asked_at, EditorSeat, FeederSeat, ReaderSeat, commits_by, draws_in, asked_from, asked_of, is_draw_before, opens_by, at_end, end_steps, settling_lines, steps, IsGathered, IsPlayed, AllRead, PlayedIsASession, fates_of, IsSession, Setting, done_in, draws_before, draws_of, readers_of, AllReadLast, AreDone, ClosedFields, EditorsDone, HasGathered, HasOpenedLast, MayOpenLast, ReaderDone, drawn_all}
 use Rattle.session.proofs.Begun.{draws_count as drawings_count}
-use Rattle.path_tree.specs.Paths.{PathNames}
-use Rattle.path_tree.specs.declared.tree.Edit.{Edit}
-use Rattle.ts_packet.specs.declared.Fate.{Fate}
-use Rattle.path_resolver.specs.declared.shot.Shot.{Shot}
-use Rattle.logbook.specs.Pages.{Book}
-use Rattle.open_history.specs.Opens.{ReaderView}
-use Rattle.station.specs.declared.station.Station.{Station}
-use Rattle.station.specs.Passes.{carousel_of, weights_of}
-use Rattle.generation_catalogue.specs.declared.entry.Entry.{Entry}
-use Rattle.carousel_world.specs.Events.{Step, Commit, Draw, Open}
-use Rattle.session_script.specs.declared.script.Stage.{Stage}
-use Rattle.session_script.specs.Scripts.{Fields}
-use Rattle.session_script.specs.Parts.{script_of_parts}
-use Rattle.rehearsal.specs.Lines.{events_of}
-use Rattle.history_merge.specs.Merging.{merge_of}
-use Rattle.history_merge.specs.Merges.{fates_view}
-use Rattle.history_merge.specs.Merged.{AreParts}
-use Rattle.session.specs.Chains.{DrawFields}
-use Rattle.session.specs.Opened.{Asked, HasOpened}
-use Rattle.session.specs.Seats.{HasFed, asked_at}
-use Rattle.session.specs.declared.editor.EditorSeat.{EditorSeat}
-use Rattle.session.specs.declared.feeder.FeederSeat.{FeederSeat}
-use Rattle.session.specs.declared.reader.ReaderSeat.{ReaderSeat}
-use Rattle.session.specs.Lines.{commits_by, draws_in, opens_by, asked_from, asked_of, is_draw_before}
-use Rattle.session.specs.Inner.Plans.{at_end, end_steps, settling_lines, steps}
-use Rattle.session.specs.Gathering.{IsGathered}
-use Rattle.session.specs.Played.{IsPlayed, AllRead, PlayedIsASession, fates_of}
-use Rattle.session.specs.Sessions.{IsSession}
-use Rattle.session.specs.Inner.Acting.{Setting, done_in, draws_before, draws_of, readers_of}
-use Rattle.session.specs.Inner.Ending.{AllReadLast, AreDone, ClosedFields, EditorsDone, HasGathered, HasOpenedLast, MayOpenLast, ReaderDone, drawn_all}
 use Rattle.session.proofs.Parted.{commits_at_end, draws_at_end, events_parts, settle_there, staged_parts}
 use Rattle.session.proofs.Reading.{asked_count, opened_count}
 use Rattle.session.proofs.Staged.{asked_more, commits_more, count_all, draws_more, opens_more, steps_done}
@@ -80,9 +45,7 @@ module _ (setting : Setting) where
       let rest = asked_last r before all above es in elim (cases_Bool (reader == r)) [ inl e ↦ rw e (ap (λ (zs : List Asked). asked_at all path ∷ zs) rest) | inr e ↦ rw e rest ]
 
   asked_split : (r : ℕ) → asked_from r (draws_before setting) (draws_of setting) 0 done ++ map (asked_at (draws_of setting)) (opens_by r ends) ≡ asked_of r script
-  asked_split r =
-      let b = draws_before setting in let a = draws_of setting in
-      sym (asked_more r b a 0 done (at_end ends)
+  asked_split r = let b = draws_before setting in let a = draws_of setting in sym (asked_more r b a 0 done (at_end ends)
       ∙ ap (λ (zs : List Asked). asked_from r b a 0 done ++ zs) (asked_last r b a (0 + length (draws_in (steps done))) ends))
       ∙ ap (λ (es : List (Stage × Step)). asked_from r (count_by is_draw_before es) (length (draws_in (steps es))) 0 es) (sym (staged_parts setting.parts))
 
@@ -92,15 +55,10 @@ module _ (setting : Setting) where
   may_open board shots readers same last all = λ k d lt. one (slice_index_or readers k d) (all k d lt)
     where
       one : (seat : ReaderSeat) → ReaderDone setting seat → MayOpenLast board shots seat
-      one seat h =
-          let r = seat.pass.reader in
-          let most = h.most_is in
+      one seat h = let r = seat.pass.reader in let most = h.most_is in
           let opened = opened_count (asked_from r (draws_before setting) (draws_of setting) 0 done) seat.pass.opens h.opened.opened in
-          let asked = asked_count r (draws_before setting) (draws_of setting) 0 done in
-          let paths = ap (λ (ps : List PathNames). length ps) h.finales in
-          let every = count_all (opens_by r) (opens_more r) setting in
-          let room = h.room in
-          record {
+          let asked = asked_count r (draws_before setting) (draws_of setting) 0 done in let paths = ap (λ (ps : List PathNames). length ps) h.finales in
+          let every = count_all (opens_by r) (opens_more r) setting in let room = h.room in record {
             board_is = h.board_is ∙ sym same;
             last = omega (arith, last, most);
             few = h.few;
@@ -108,9 +66,7 @@ module _ (setting : Setting) where
           }
 
   one_read : (shots : List Shot) (old : ReaderSeat) (new : ReaderView) → ReaderDone setting old → HasOpenedLast shots old.finales.items old.pass new → HasOpened (asked_of old.pass.reader script) new
-  one_read shots old new d h =
-      let r = old.pass.reader in
-      subst (λ (all : List Asked). HasOpened all new)
+  one_read shots old new d h = let r = old.pass.reader in subst (λ (all : List Asked). HasOpened all new)
       ((λ i. asked_from r (draws_before setting) (draws_of setting) 0 done ++ map (asked_at (d.most_is i)) (d.finales i)) ∙ asked_split r)
       (h.opened (asked_from r (draws_before setting) (draws_of setting) 0 done) d.opened)
 
@@ -118,14 +74,13 @@ module _ (setting : Setting) where
   all_read shots [] [] d h = tt
   all_read shots [] (new ∷ news) d h = absurd h
   all_read shots (old ∷ olds) [] d h = absurd h
-  all_read shots (old ∷ olds) (new ∷ news) d h =
-      let first = (h.0).opened in (
-        first.same.0,
-        one_read shots old new (d 0 old (omega arith)) first,
-        first.known,
-        (h.0).answered,
-        all_read shots olds news (λ k e lt. d (suc k) e (omega (arith, lt))) h.1,
-      )
+  all_read shots (old ∷ olds) (new ∷ news) d h = let first = (h.0).opened in (
+    first.same.0,
+    one_read shots old new (d 0 old (omega arith)) first,
+    first.known,
+    (h.0).answered,
+    all_read shots olds news (λ k e lt. d (suc k) e (omega (arith, lt))) h.1,
+  )
 
   -- ---- all of it
 
@@ -136,18 +91,15 @@ module _ (setting : Setting) where
 
     -- one shot was shown before the draws and one after each
     shown_count : length first ≡ length (draws_in (steps done)) + 1
-    shown_count =
-        let shots = d.fed.shown.shown.count in
-        let drawings = drawings_count (carousel_of s) (weights_of s) _ _ (draws_in (steps done)) d.fed.drawings d.fed.draws in
-        omega (arith, shots, drawings)
+    shown_count = let shots = d.fed.shown.shown.count in
+        let drawings = drawings_count (carousel_of s) (weights_of s) _ _ (draws_in (steps done)) d.fed.drawings d.fed.draws in omega (arith, shots, drawings)
 
     pub may_draw : (most : ℕ) → most ≡ draws_of setting → length first + length (settling_lines settling) ≤ most + 1
     may_draw most is = let shots = shown_count in let all = draws_count in let same = settle_count in omega (arith, shots, all, same, is)
 
     pub may_read : (board before : Book) (shots : List Shot) → before ≡ setting.board → board ≡ before → length shots ≡ length first + length (settling_lines settling)
         → All (MayOpenLast board shots) readers
-    may_read board before shots is same shown =
-        let count = shown_count in let all = draws_count in let settled = settle_count in
+    may_read board before shots is same shown = let count = shown_count in let all = draws_count in let settled = settle_count in
         may_open board shots readers (same ∙ is) (omega (arith, shown, count, all, settled)) d.read
 
     module _ (e0 e1 : ClosedFields) (shots : List Shot) (news : List ReaderView)
@@ -160,8 +112,7 @@ module _ (setting : Setting) where
       draws_all = ap (λ (b : Bool). draws_in (steps done) ++ settling_lines b) d.settled ∙ draws_split
 
       all_gathered : HasGathered (carousel_of s) (weights_of s) (map (λ (n : ℕ). commits_by n (steps done)) numbers) (draws_in (steps done) ++ settling_lines settling) shots e1
-      all_gathered =
-          went_on (carousel_of s) (weights_of s) (map (λ (n : ℕ). commits_by n (steps done)) numbers) (draws_in (steps done))
+      all_gathered = went_on (carousel_of s) (weights_of s) (map (λ (n : ℕ). commits_by n (steps done)) numbers) (draws_in (steps done))
           (gathered numbers (steps done) (draws_in (steps done)) first d.committed d.fed)
 
       is_played : IsPlayed script e1.catalogue all_gathered.drawings shots news
@@ -183,9 +134,7 @@ module _ (setting : Setting) where
 
       -- what is merged fits together, and tells a session
       pub tells : PlayedIsASession → FitsAndTells (weights_of s) script numbers e1.catalogue.entries e1.fates news
-      tells law =
-          let es = e1.catalogue.entries in
-          subst (λ (ws : List ℕ). FitsAndTells ws script numbers es e1.fates news) all_gathered.weighs
+      tells law = let es = e1.catalogue.entries in subst (λ (ws : List ℕ). FitsAndTells ws script numbers es e1.fates news) all_gathered.weighs
           (subst (λ (fs : List (List Fate)). FitsAndTells e1.catalogue.weights script numbers es fs news) (sym fates_are)
           (subst (λ (ns : List ℕ). FitsAndTells e1.catalogue.weights script ns es (fates_of script) news) (sym d.numbers_are)
           (law setting.parts e1.catalogue all_gathered.drawings shots news d.ranges d.listed is_played)))

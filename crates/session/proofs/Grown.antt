@@ -1,19 +1,7 @@
 -- A draw more, by who has the whole catalogue.
-use Rattle.std.proofs.Common.{◌≡◌, ℕ, suc, Bool, true, false, cond, List, [], ◌∷◌, ◌++◌, length, filter, inl, inr, sym, ap, ◌∙◌, refl, subst, arith, append_assoc, append-nil}
-use Rattle.std.proofs.lemmas.List.{map-append}
-use Rattle.std.proofs.lemmas.List.Elements.{filter-append}
-use Rattle.path_tree.specs.declared.tree.Edit.{Edit}
-use Rattle.ts_packet.specs.declared.Fate.{Fate}
-use Rattle.generation_catalogue.specs.History.{current_of, cursor_of, count_drawn}
-use Rattle.generation_catalogue.specs.declared.entry.Entry.{Entry}
+use Rattle.session.proofs.Words.{◌≡◌, ℕ, suc, Bool, true, false, cond, List, [], ◌∷◌, ◌++◌, length, filter, inl, inr, sym, ap, ◌∙◌, refl, subst, arith, append_assoc, append-nil, map-append, filter-append, Edit, Fate, current_of, cursor_of, count_drawn, Entry, drawing_of, Each, IsPlaced, is_commit_at, state_of, drawings_after, DrawFields, AreEntered, IsFullAfter, entries_to_next, asked_in, GatherGrows}
 use Rattle.generation_catalogue.specs.declared.entry.Entry.TheVariants as entries
 use Rattle.generation_catalogue.proofs.CallerLemmas.{history_drawn}
-use Rattle.carousel_world.specs.World.{drawing_of}
-use Rattle.history_merge.specs.Merging.{Each}
-use Rattle.history_merge.specs.Merged.{IsPlaced, is_commit_at}
-use Rattle.history_merge.specs.Merges.{state_of, drawings_after}
-use Rattle.session.specs.Chains.{DrawFields}
-use Rattle.session.specs.Gathering.{AreEntered, IsFullAfter, entries_to_next, asked_in, GatherGrows}
 use Rattle.session.proofs.Rooms.{full_later}
 use Rattle.session.proofs.Feeding.{fates_in, asked_by}
 
@@ -36,15 +24,14 @@ entered_more : (place : ℕ) (before : List Entry) (lines : List (List Edit)) (e
     → AreEntered place before lines (es ++ entries.Draw asked generation first count ∷ [])
 entered_more place before [] es asked generation first count h =
     filter-append (is_commit_at place) es (entries.Draw asked generation first count ∷ []) ∙ append-nil (filter (is_commit_at place) es) ∙ h
-entered_more place before (edits ∷ lines) es asked generation first count (inl h) =
-    inl (
-      h.0,
-      h.1,
-      h.2 ++ entries.Draw asked generation first count ∷ [],
-      ap (λ l. l ++ entries.Draw asked generation first count ∷ []) h.3 ∙ append_assoc h.0 (entries.Commit place edits h.1 ∷ h.2) (entries.Draw asked generation first count ∷ []),
-      h.4,
-      entered_more place (before ++ h.0 ++ entries.Commit place edits h.1 ∷ []) lines h.2 asked generation first count h.5,
-    )
+entered_more place before (edits ∷ lines) es asked generation first count (inl h) = inl (
+  h.0,
+  h.1,
+  h.2 ++ entries.Draw asked generation first count ∷ [],
+  ap (λ l. l ++ entries.Draw asked generation first count ∷ []) h.3 ∙ append_assoc h.0 (entries.Commit place edits h.1 ∷ h.2) (entries.Draw asked generation first count ∷ []),
+  h.4,
+  entered_more place (before ++ h.0 ++ entries.Commit place edits h.1 ∷ []) lines h.2 asked generation first count h.5,
+)
 entered_more place before (edits ∷ lines) es asked generation first count (inr h) =
     let r = to_next_more place es (entries.Draw asked generation first count ∷ []) in
     let longer : before ++ entries_to_next place (es ++ entries.Draw asked generation first count ∷ []) ≡ (before ++ entries_to_next place es) ++ r.0 =
@@ -69,8 +56,7 @@ drawings_more id ws before fates last (entries.Commit editor edits outcome ∷ e
     drawings_more id ws (before ++ entries.Commit editor edits outcome ∷ []) fates last es asked generation first count e
     ∙ ap (λ l. drawings_after id ws (before ++ entries.Commit editor edits outcome ∷ []) fates es ++ drawing_of (state_of id ws l) asked last ∷ []) (append_assoc before (entries.Commit editor edits outcome ∷ []) es)
 drawings_more id ws before [] last (entries.Draw a g n k ∷ es) asked generation first count e = absurd (omega (arith, e))
-drawings_more id ws before (f ∷ fates) last (entries.Draw a g n k ∷ es) asked generation first count e =
-    ap (λ l. drawing_of (state_of id ws before) a f ∷ l)
+drawings_more id ws before (f ∷ fates) last (entries.Draw a g n k ∷ es) asked generation first count e = ap (λ l. drawing_of (state_of id ws before) a f ∷ l)
     (drawings_more id ws (before ++ entries.Draw a g n k ∷ []) fates last es asked generation first count (omega (arith, e))
     ∙ ap (λ l. drawings_after id ws (before ++ entries.Draw a g n k ∷ []) fates es ++ drawing_of (state_of id ws l) asked last ∷ []) (append_assoc before (entries.Draw a g n k ∷ []) es))
 
@@ -79,11 +65,8 @@ same_count [] = refl
 same_count (l ∷ lines) = ap suc (same_count lines)
 
 pub grows : GatherGrows
-grows editors draws drawings c line h room some most =
-    let generation = (current_of c).number in
-    let first = cursor_of c in
-    let count = count_drawn c line.asked in
-    record {
+grows editors draws drawings c line h room some most = let generation = (current_of c).number in let first = cursor_of c in
+    let count = count_drawn c line.asked in record {
       history = history_drawn c line.asked some most room h.history;
       placed = each_more (length editors) c.entries (entries.Draw line.asked generation first count) h.placed tt;
       commits = λ place lines at. entered_more place [] lines c.entries line.asked generation first count (h.commits place lines at);

@@ -1,13 +1,7 @@
 -- The opens of a merge stand right after their draws, by their readers' numbers.
-use Rattle.std.proofs.Common.{ℕ, zero, suc, ◌+◌, ◌≤◌, List, [], ◌∷◌, ◌++◌, map, filter, drop, sym, subst, arith, append_assoc}
-use Rattle.std.specs.List.{flat_map, range_with_len}
-use Rattle.ts_packet.specs.declared.Fate.{Fate}
-use Rattle.generation_catalogue.specs.declared.entry.Entry.{Entry}
+use Rattle.session.proofs.Words.{ℕ, zero, suc, ◌+◌, ◌≤◌, List, [], ◌∷◌, ◌++◌, map, filter, drop, sym, subst, arith, append_assoc, flat_map, range_with_len, Fate, Entry, ReaderView, OpenEntry, has_heard, opened_of, opens_of, merge_entries, merge_of, OpensInPlace}
 use Rattle.generation_catalogue.specs.declared.entry.Entry.TheVariants as entries
-use Rattle.open_history.specs.Opens.{ReaderView}
-use Rattle.open_history.specs.declared.entry.OpenEntry.{OpenEntry}
-use Rattle.history_merge.specs.Merging.{has_heard, opened_of, opens_by, opens_of, merge_entries, merge_of}
-use Rattle.session.specs.Sessions.{OpensInPlace}
+use Rattle.history_merge.specs.Merging.{opens_by}
 use Rattle.session.proofs.Telling.{Told}
 use Rattle.session.proofs.Settled.{steps}
 
@@ -22,8 +16,7 @@ module _ (editors : List ℕ) (readers : List ReaderView) where
   of_readers : (drawn least a n : ℕ) (rest : List Told) → least ≤ a → ((m : ℕ) → OpensInPlace m (steps rest))
       → OpensInPlace least (steps (flat_map (opens_of readers drawn) (range_with_len a n) ++ rest))
   of_readers drawn least a zero rest low follows = follows least
-  of_readers drawn least a (suc n) rest low follows =
-      subst (λ (l : List Told). OpensInPlace least (steps l))
+  of_readers drawn least a (suc n) rest low follows = subst (λ (l : List Told). OpensInPlace least (steps l))
       (sym (append_assoc (opens_of readers drawn a) (flat_map (opens_of readers drawn) (range_with_len (a + 1) n)) rest))
       (of_reader a least (filter (has_heard drawn) (opens_by a readers))
       (flat_map (opens_of readers drawn) (range_with_len (a + 1) n) ++ rest) low

@@ -1,17 +1,5 @@
 -- The last shot, and what the readers open on it.
-use Rattle.std.proofs.Common.{◌≡◌, ◌⊎◌, inr, ℕ, ◌+◌, ◌<◌, ◌≤◌, List, [], ◌∷◌, ◌++◌, map, length, refl, ap, sym, ◌∙◌, subst, arith, append_assoc, append-nil, length-append}
-use mathlib.Core.List.{IsPrefix}
-use Rattle.std.proofs.lemmas.List.{map-append}
-use Rattle.path_tree.specs.Paths.{PathNames}
-use Rattle.path_resolver.specs.declared.shot.Shot.{Shot}
-use Rattle.shot_board.proofs.CallerLemmas.{prefix_whole}
-use Rattle.open_history.specs.Opens.{ReaderView, IsSameReader}
-use Rattle.open_history.specs.declared.entry.OpenEntry.{OpenEntry}
-use Rattle.logbook.specs.Pages.{Book}
-use Rattle.session.specs.Opened.{Asked, AreOpened, HasOpened, Rises}
-use Rattle.session.specs.Seats.{asked_at}
-use Rattle.session.specs.declared.reader.ReaderSeat.{ReaderSeat}
-use Rattle.session.specs.Inner.Ending.{HasOpenedLast, HasReadLast, AllReadLast, MayOpenLast}
+use Rattle.session.proofs.Words.{◌≡◌, ◌⊎◌, inr, ℕ, ◌+◌, ◌<◌, ◌≤◌, List, [], ◌∷◌, ◌++◌, map, length, refl, ap, sym, ◌∙◌, subst, arith, append_assoc, append-nil, length-append, IsPrefix, map-append, PathNames, Shot, prefix_whole, ReaderView, IsSameReader, OpenEntry, Book, Asked, AreOpened, HasOpened, Rises, asked_at, ReaderSeat, HasOpenedLast, HasReadLast, AllReadLast, MayOpenLast}
 
 -- ---- one reader
 
@@ -36,10 +24,8 @@ pub opened_next : (shots : List Shot) (paths : List PathNames) (first old new : 
     → IsSameReader old new → IsPrefix old.known new.known → length new.known ≤ new.most + 1
     → ((least : ℕ) (asked : List Asked) → (least + 1 ≤ length old.told) ⊎ (least + 1 ≤ length old.known) → HasOpened asked old → HasOpened (asked ++ asked_at least path ∷ []) new)
     → length new.opens ≡ length old.opens + 1 → HasOpenedLast shots (paths ++ path ∷ []) first new
-opened_next shots paths first old new path last h same known few opens count =
-    let most : new.most ≡ first.most = same.3 ∙ h.same.3 in
-    let all = ap length h.known in
-    record {
+opened_next shots paths first old new path last h same known few opens count = let most : new.most ≡ first.most = same.3 ∙ h.same.3 in
+    let all = ap length h.known in record {
       same = (same.0 ∙ h.same.0, same.1 ∙ h.same.1, same.2 ∙ h.same.2, most);
       known = sym (prefix_whole old.known new.known known (omega (arith, few, most, all, last))) ∙ h.known;
       opened = λ asked done. subst (λ (all : List Asked). HasOpened all new)

@@ -1,3 +1,4 @@
+pub mod Words
 mod Lists
 pub mod Showing
 pub mod Opening

@@ -1,11 +1,6 @@
 -- What stands at a place of a list, how a list begins, and counts.
-use Rattle.std.proofs.Common.{◌≡◌, ◌≢◌, ℕ, zero, suc, ◌+◌, ◌<◌, ◌≤◌, Bool, true, false, cond, List, [], ◌∷◌, ◌++◌, length, filter, Some, slice_get, count_by, ◌⊎◌, inl, inr, sym, ap, ◌∙◌, refl, arith, append_assoc, append-nil, length-append, ne_eqb}
-use Rattle.std.proofs.lemmas.List.Sums.{sum_by-append}
+use Rattle.session.proofs.Words.{◌≡◌, ◌≢◌, ℕ, zero, suc, ◌+◌, ◌<◌, ◌≤◌, Bool, true, false, cond, List, [], ◌∷◌, ◌++◌, length, filter, Some, slice_get, count_by, ◌⊎◌, inl, inr, sym, ap, ◌∙◌, refl, arith, append_assoc, append-nil, length-append, ne_eqb, sum_by-append, cond_both, cases_Bool, Begins, times, total, once_within, Each, filter_takes, filter_skips}
 use Rattle.std.proofs.lemmas.Bool.Decides.{nat_tests}
-use Rattle.std.proofs.lemmas.Bool.{cond_both, cases_Bool}
-use Rattle.history_lock.specs.History.{Begins, times, total, once_within}
-use Rattle.history_merge.specs.Merging.{Each}
-use Rattle.history_merge.proofs.CallerLemmas.{filter_takes, filter_skips}
 
 module _ {A : Type 0} where
   pub get_one : (xs : List A) (k : ℕ) (x y : A) → slice_get xs k ≡ Some x → slice_get xs k ≡ Some y → x ≡ y

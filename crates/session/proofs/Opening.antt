@@ -1,12 +1,5 @@
 -- One open more.
-use Rattle.std.proofs.Common.{◌≡◌, ◌⊎◌, inl, inr, ℕ, ◌+◌, ◌≤◌, List, [], ◌∷◌, ◌++◌, length, ap, sym, ◌∙◌, subst, append_assoc, arith}
-use mathlib.Core.List.{IsPrefix}
-use Rattle.path_tree.specs.Paths.{PathNames}
-use Rattle.shot_board.proofs.CallerLemmas.{prefix_length}
-use Rattle.open_history.specs.Opens.{ReaderView}
-use Rattle.open_history.specs.declared.entry.OpenEntry.{OpenEntry}
-use Rattle.session.specs.Opened.{Asked, AreOpened, Rises, HasOpened}
-use Rattle.session.specs.Seats.{asked_at}
+use Rattle.session.proofs.Words.{◌≡◌, ◌⊎◌, inl, inr, ℕ, ◌+◌, ◌≤◌, List, [], ◌∷◌, ◌++◌, length, ap, sym, ◌∙◌, subst, append_assoc, arith, IsPrefix, PathNames, prefix_length, ReaderView, OpenEntry, Asked, AreOpened, Rises, HasOpened, asked_at}
 
 pub begins_later : {A : Type 0} (xs ys zs : List A) → IsPrefix xs ys → IsPrefix ys zs → IsPrefix xs zs
 begins_later xs ys zs p q = (p.0 ++ q.0, sym (append_assoc xs p.0 q.0) ∙ ap (λ l. l ++ q.0) p.1 ∙ q.1)
@@ -24,10 +17,8 @@ rises_push first (x ∷ es) last e h le = (h.0, rises_push (x.shot + 1) es last 
 pub one_open_more : (old new : ReaderView) (made : OpenEntry) (path : PathNames) → new.opens ≡ old.opens ++ made ∷ [] → made.path ≡ path → made.shot + 1 ≡ length new.known
     → IsPrefix old.known new.known → IsPrefix old.told new.known
     → (least : ℕ) (asked : List Asked) → (least + 1 ≤ length old.told) ⊎ (least + 1 ≤ length old.known) → HasOpened asked old → HasOpened (asked ++ asked_at least path ∷ []) new
-one_open_more old new made path opens its last knew told least asked enough has =
-    let known = prefix_length old.known new.known knew in
-    let heard = prefix_length old.told new.known told in
-    record {
+one_open_more old new made path opens its last knew told least asked enough has = let known = prefix_length old.known new.known knew in
+    let heard = prefix_length old.told new.known told in record {
       opened = subst (AreOpened (asked ++ asked_at least path ∷ [])) (sym opens) (opened_push asked old.opens (asked_at least path) made has.opened its (at_least enough known heard));
       rises = subst (λ (es : List OpenEntry). Rises 0 es (length new.known)) (sym opens)
           (subst (Rises 0 (old.opens ++ made ∷ [])) last (rises_push 0 old.opens (length old.known) made has.rises (omega (arith, known, last))));

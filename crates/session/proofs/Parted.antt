@@ -1,25 +1,9 @@
 -- The events of a script that parts make, part by part.
-use Rattle.std.proofs.Common.{◌≡◌, ℕ, List, [], ◌∷◌, ◌++◌, map, Bool, true, false, Option, Some, None, refl, sym, ap, ◌∙◌, append_assoc}
-use Rattle.std.specs.Prelude.{is_some, ◌||◌}
-use Rattle.std.specs.List.{All, Contains, list_any}
-use Rattle.std.proofs.lemmas.List.{map-append}
-use Rattle.std.proofs.lemmas.List.Elements.{All-nil, All-head, All-tail, All-cons, All-append}
+use Rattle.session.proofs.Words.{◌≡◌, ℕ, List, [], ◌∷◌, ◌++◌, map, Bool, true, false, Option, Some, None, refl, sym, ap, ◌∙◌, append_assoc, is_some, ◌||◌, All, Contains, list_any, map-append, All-nil, All-head, All-tail, All-cons, All-append, TaskLine, Finale, Stage, Before, During, After, Act, LineFields, act_of, task_line, settle_lines, finale_line, script_of_parts, AreListed, IsMentioned, Step, Commit, Draw, Open, Pending, none_pending, pending_after, events_of, events_of_line, events_from, settling_step, DrawFields, commits_by, draws_in, is_settle, staged_events, staged_from, settles, opens_by, above, at_end, before_steps, below, during_steps, end_steps, events_at, finale_step, settling, settling_lines, steps, waiting_below}
 use Rattle.session_script.specs.declared.parts.Task.{Task}
 use Rattle.session_script.specs.declared.parts.Task.TheVariants as tasks
-use Rattle.session_script.specs.declared.parts.TaskLine.{TaskLine}
-use Rattle.session_script.specs.declared.parts.Finale.{Finale}
 use Rattle.session_script.specs.declared.parts.Parts.{Parts}
-use Rattle.session_script.specs.declared.script.Stage.{Stage}
-use Rattle.session_script.specs.declared.script.Stage.TheVariants.{Before, During, After}
-use Rattle.session_script.specs.Scripts.{Act, LineFields}
 use Rattle.session_script.specs.Scripts as acts
-use Rattle.session_script.specs.Parts.{act_of, task_line, settle_lines, finale_line, script_of_parts}
-use Rattle.session_script.specs.Ranges.{AreListed, IsMentioned}
-use Rattle.carousel_world.specs.Events.{Step, Commit, Draw, Open}
-use Rattle.rehearsal.specs.Lines.{Pending, none_pending, pending_after, events_of, events_of_line, events_from, settling_step}
-use Rattle.session.specs.Chains.{DrawFields}
-use Rattle.session.specs.Lines.{commits_by, draws_in, is_settle, opens_by, staged_events, staged_from, settles}
-use Rattle.session.specs.Inner.Plans.{above, at_end, before_steps, below, during_steps, end_steps, events_at, finale_step, settling, settling_lines, steps, waiting_below}
 use Rattle.session.proofs.Scripted.{EndsDrawn}
 use Rattle.session.proofs.Staged.{draws_more, steps_more, unstaged}
 
@@ -28,11 +12,8 @@ use Rattle.session.proofs.Staged.{draws_more, steps_more, unstaged}
 tasks_staged : (stage : Stage) (p : Pending) (ts : List TaskLine) (rest : List LineFields)
     → staged_from p (map (task_line stage) ts ++ rest) ≡ map (λ (e : Step). (stage, e)) (events_at p ts) ++ staged_from (waiting_below p ts) rest
 tasks_staged stage p [] rest = refl
-tasks_staged stage p (t ∷ ts) rest =
-    let here = events_of_line p (act_of t.task) in
-    let next = pending_after p (act_of t.task) in
-    let put : Step → Stage × Step = λ e. (stage, e) in
-    ap (λ (es : List (Stage × Step)). map put here ++ es) (tasks_staged stage next ts rest)
+tasks_staged stage p (t ∷ ts) rest = let here = events_of_line p (act_of t.task) in let next = pending_after p (act_of t.task) in
+    let put : Step → Stage × Step = λ e. (stage, e) in ap (λ (es : List (Stage × Step)). map put here ++ es) (tasks_staged stage next ts rest)
     ∙ sym (append_assoc (map put here) (map put (events_at next ts)) (staged_from (waiting_below next ts) rest))
     ∙ ap (λ (es : List (Stage × Step)). es ++ staged_from (waiting_below next ts) rest) (sym (map-append put here (events_at next ts)))
 
@@ -45,9 +26,7 @@ ends_staged p (Some number) fs = ap (λ (es : List (Stage × Step)). (After, set
 ends_staged p None fs = finales_staged p fs
 
 pub staged_parts : (p : Parts) → staged_events (script_of_parts p) ≡ (above (before_steps p) ++ below (during_steps p)) ++ at_end (end_steps p)
-staged_parts p =
-    let last = settle_lines p.settle ++ map finale_line p.finales.items in
-    let mid = waiting_below none_pending p.before.items in
+staged_parts p = let last = settle_lines p.settle ++ map finale_line p.finales.items in let mid = waiting_below none_pending p.before.items in
     tasks_staged Before none_pending p.before.items (map (task_line During) p.during.items ++ last)
     ∙ ap (λ (es : List (Stage × Step)). above (before_steps p) ++ es)
     (tasks_staged During mid p.during.items last ∙ ap (λ (es : List (Stage × Step)). below (during_steps p) ++ es) (ends_staged (waiting_below mid p.during.items) p.settle p.finales.items))
@@ -64,8 +43,7 @@ steps_from p (l ∷ lines) =
 
 -- without them
 pub events_parts : (p : Parts) → events_of (script_of_parts p) ≡ (before_steps p ++ during_steps p) ++ end_steps p
-events_parts p =
-    let b = before_steps p in let d = during_steps p in let e = end_steps p in
+events_parts p = let b = before_steps p in let d = during_steps p in let e = end_steps p in
     sym (steps_from none_pending (script_of_parts p).lines) ∙ ap steps (staged_parts p) ∙ steps_more (above b ++ below d) (at_end e)
     ∙ (λ i. (steps_more (above b) (below d) ∙ (λ j. unstaged Before b j ++ unstaged During d j)) i ++ unstaged After e i)
 
@@ -125,8 +103,7 @@ no_finale_settles (f ∷ fs) = no_finale_settles fs
 
 -- then there is a line that says so
 pub settle_there : (p : Parts) → settles (script_of_parts p) ≡ true → is_some p.settle ≡ true
-settle_there p s =
-    let last = settle_lines p.settle ++ map finale_line p.finales.items in
+settle_there p s = let last = settle_lines p.settle ++ map finale_line p.finales.items in
     by p.settle (sym (after_tasks Before p.before.items (map (task_line During) p.during.items ++ last) ∙ after_tasks During p.during.items last) ∙ s)
   where
     by : (o : Option ℕ) → any_settles (settle_lines o ++ map finale_line p.finales.items) ≡ true → is_some o ≡ true
@@ -135,11 +112,10 @@ settle_there p s =
 
 -- and its last two draws are those of `settle`
 pub settles_last : (p : Parts) → settles (script_of_parts p) ≡ true → EndsDrawn (draws_in (events_of (script_of_parts p)))
-settles_last p s =
-    let first = before_steps p ++ during_steps p in (
-      draws_in first,
-      ap draws_in (events_parts p) ∙ draws_more first (end_steps p) ∙ ap (λ (ds : List DrawFields). draws_in first ++ ds) (draws_at_end p ∙ ap settling_lines (settle_there p s)),
-    )
+settles_last p s = let first = before_steps p ++ during_steps p in (
+  draws_in first,
+  ap draws_in (events_parts p) ∙ draws_more first (end_steps p) ∙ ap (λ (ds : List DrawFields). draws_in first ++ ds) (draws_at_end p ∙ ap settling_lines (settle_there p s)),
+)
 
 -- ---- whom the events above `start` are of
 
@@ -167,11 +143,8 @@ module _ (editors readers : List ℕ) where
   tasks_named : (p : Pending) (ts : List TaskLine) (rest : List LineFields) → All (λ (l : LineFields). IsMentioned editors readers l.act) (map (task_line Before) ts ++ rest)
       → All Named (events_at p ts)
   tasks_named p [] rest h = All-nil Named
-  tasks_named p (t ∷ ts) rest h =
-      let M : LineFields → Type 0 = λ l. IsMentioned editors readers l.act in
-      let line = task_line Before t in
-      let left = map (task_line Before) ts ++ rest in
-      All-append Named (events_of_line p (act_of t.task)) (events_at (pending_after p (act_of t.task)) ts)
+  tasks_named p (t ∷ ts) rest h = let M : LineFields → Type 0 = λ l. IsMentioned editors readers l.act in let line = task_line Before t in
+      let left = map (task_line Before) ts ++ rest in All-append Named (events_of_line p (act_of t.task)) (events_at (pending_after p (act_of t.task)) ts)
       (one p (act_of t.task) (All-head M line left h)) (tasks_named (pending_after p (act_of t.task)) ts rest (All-tail M line left h))
 
 pub before_named : (p : Parts) → AreListed (script_of_parts p) → All (IsNamed p.editors.items p.readers.items) (before_steps p)

@@ -1,30 +1,7 @@
 -- Tasks, one after another, and whose they are.
-use Rattle.std.proofs.Common.{◌≡◌, ℕ, ◌==◌, Bool, true, false, List, [], ◌∷◌, ◌++◌, map, Result, Ok, Err, refl, sym, ap, ◌∙◌, subst, append-nil, append_assoc}
-use Rattle.std.specs.Prelude.{OnOk, IfOk, if◌then◌else◌}
-use Rattle.std.specs.List.{All}
-use Rattle.std.specs.declared.vec.Vec.{Vec}
-use Rattle.std.specs.declared.alloc.Global.{Global}
-use Rattle.std.proofs.lemmas.List.{map-append}
-use Rattle.std.proofs.lemmas.List.Elements.{All-push}
-use Rattle.path_tree.specs.Paths.{PathNames}
-use Rattle.path_tree.specs.declared.tree.Edit.{Edit}
-use Rattle.session_script.specs.declared.parts.TaskLine.{TaskLine}
-use Rattle.session_script.specs.Parts.{act_of}
-use Rattle.carousel_world.specs.Events.{Step, Commit, Draw, Open}
-use Rattle.carousel_world.specs.World.{InRange}
-use Rattle.rehearsal.specs.declared.interpreter.Happening.{Happening}
+use Rattle.session.proofs.Words.{◌≡◌, ℕ, ◌==◌, Bool, true, false, List, [], ◌∷◌, ◌++◌, map, Result, Ok, Err, refl, sym, ap, ◌∙◌, subst, append-nil, append_assoc, OnOk, IfOk, if◌then◌else◌, All, Vec, Global, map-append, All-push, PathNames, Edit, TaskLine, act_of, Step, Commit, Draw, Open, InRange, Happening, view_happening, Pending, pending_after, events_of_line, ByActor, CommitLine, DrawLine, lists_of, DrawFields, commits_by, draws_in, opens_by, edits_of, draw_of, IsDrawLine, HasSplit, events_at, waiting_below}
 use Rattle.rehearsal.specs.declared.interpreter.Happening.TheVariants as deeds
-use Rattle.rehearsal.specs.Happening.{view_happening}
-use Rattle.rehearsal.specs.Lines.{Pending, pending_after, events_of_line}
-use Rattle.session.specs.declared.by_actor.ByActor.{ByActor}
-use Rattle.session.specs.declared.editor.CommitLine.{CommitLine}
-use Rattle.session.specs.declared.feeder.DrawLine.{DrawLine}
 use Rattle.session.specs.declared.plan.Work.{Work}
-use Rattle.session.specs.Inner.ByActor.{lists_of}
-use Rattle.session.specs.Chains.{DrawFields}
-use Rattle.session.specs.Lines.{commits_by, draws_in, opens_by}
-use Rattle.session.specs.Seats.{edits_of, draw_of, IsDrawLine}
-use Rattle.session.specs.Inner.Plans.{HasSplit, events_at, waiting_below}
 use Rattle.session.proofs.Staged.{commits_more, draws_more, opens_more}
 use Rattle.session.proofs.Taking.{either_side}
 
@@ -40,9 +17,7 @@ on_ok_always (Err e) a = tt
 
 pub events_more : (p : Pending) (ts : List TaskLine) (t : TaskLine) → events_at p (ts ++ t ∷ []) ≡ events_at p ts ++ events_of_line (waiting_below p ts) (act_of t.task)
 events_more p [] t = append-nil (events_of_line p (act_of t.task))
-events_more p (x ∷ ts) t =
-    let here = events_of_line p (act_of x.task) in
-    let next = pending_after p (act_of x.task) in
+events_more p (x ∷ ts) t = let here = events_of_line p (act_of x.task) in let next = pending_after p (act_of x.task) in
     ap (λ (es : List Step). here ++ es) (events_more next ts t) ∙ sym (append_assoc here (events_at next ts) (events_of_line (waiting_below next ts) (act_of t.task)))
 
 pub waiting_more : (p : Pending) (ts : List TaskLine) (t : TaskLine) → waiting_below p (ts ++ t ∷ []) ≡ pending_after (waiting_below p ts) (act_of t.task)
@@ -72,8 +47,7 @@ module _ (old new : Work) (done : List Step) (h : HasSplit old done) where
   pub split_commit : (what : Happening) (line : CommitLine) (editor : ℕ) (edits : Vec Edit Global) → what ≡ deeds.Commit editor edits → line.edits ≡ edits
       → ((n : ℕ) → lists_of new.commits n ≡ (if n == editor then lists_of old.commits n ++ line ∷ [] else lists_of old.commits n))
       → new.draws ≡ old.draws → new.paths ≡ old.paths → HasSplit new (done ++ view_happening what ∷ [])
-  split_commit what line editor edits of_it is commits draws paths =
-      let e = Commit editor edits.items in
+  split_commit what line editor edits of_it is commits draws paths = let e = Commit editor edits.items in
       split_as (ap (λ (x : Happening). done ++ view_happening x ∷ []) (sym of_it))
       (record {
         commits = λ n. ap (map edits_of) (commits n) ∙ one_commit line (n == editor) (editor == n) (either_side n editor) (lists_of old.commits n) (commits_by n done) (h.commits n)
@@ -86,8 +60,7 @@ module _ (old new : Work) (done : List Step) (h : HasSplit old done) where
 
   pub split_draw : (what : Happening) (line : DrawLine) → what ≡ deeds.Draw line.asked line.fates → InRange (view_happening what) → new.draws.items ≡ old.draws.items ++ line ∷ [] → new.commits ≡ old.commits
       → new.paths ≡ old.paths → HasSplit new (done ++ view_happening what ∷ [])
-  split_draw what line of_it ranged pushed commits paths =
-      let e = Draw line.asked line.fates.items in
+  split_draw what line of_it ranged pushed commits paths = let e = Draw line.asked line.fates.items in
       let within : IsDrawLine line = subst (λ (x : Happening). InRange (view_happening x)) of_it ranged in
       split_as (ap (λ (x : Happening). done ++ view_happening x ∷ []) (sym of_it))
       (record {
@@ -100,8 +73,7 @@ module _ (old new : Work) (done : List Step) (h : HasSplit old done) where
   pub split_open : (what : Happening) (reader : ℕ) (path : PathNames) → what ≡ deeds.Open reader path
       → ((n : ℕ) → lists_of new.paths n ≡ (if n == reader then lists_of old.paths n ++ path ∷ [] else lists_of old.paths n))
       → new.commits ≡ old.commits → new.draws ≡ old.draws → HasSplit new (done ++ view_happening what ∷ [])
-  split_open what reader path of_it paths commits draws =
-      let e = Open reader path in
+  split_open what reader path of_it paths commits draws = let e = Open reader path in
       split_as (ap (λ (x : Happening). done ++ view_happening x ∷ []) (sym of_it))
       (record {
         commits = λ n. ap (λ (b : ByActor CommitLine). map edits_of (lists_of b n)) commits ∙ h.commits n ∙ sym (commits_more n done (e ∷ []) ∙ append-nil (commits_by n done));

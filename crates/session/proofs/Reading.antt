@@ -1,27 +1,5 @@
 -- The seats of the readers, after one event more.
-use Rattle.std.proofs.Common.{◌≡◌, ◌≢◌, ◌⊎◌, inl, arith, ℕ, suc, ◌+◌, ◌<◌, ◌≤◌, ◌==◌, Bool, List, [], ◌∷◌, ◌++◌, map, length, refl, sym, ap, ◌∙◌, subst, append-nil, ne_eqb, eq-eqb, inr}
-use Rattle.std.specs.Prelude.{slice_set, slice_index_or, if◌then◌else◌}
-use mathlib.Core.List.{IsPrefix}
-use mathlib.Core.Logic.{dite}
-use native.Mathlib.Decide.{ℕ_discrete}
-use Rattle.std.proofs.lemmas.List.{get_or-map, get_or-set_other, length-set, length-map, length-append}
-use Rattle.std.proofs.lemmas.Grind.{get_or-set_at}
-use Rattle.std.proofs.Math.Seq.{map-set_same}
-use Rattle.std.proofs.lemmas.Bool.{cases_Bool}
-use Rattle.path_tree.specs.Paths.{PathNames}
-use Rattle.path_resolver.specs.declared.shot.Shot.{Shot}
-use Rattle.shot_board.proofs.CallerLemmas.{prefix_length}
-use Rattle.open_history.specs.Opens.{IsSameReader}
-use Rattle.open_history.specs.declared.entry.OpenEntry.{OpenEntry}
-use Rattle.session_script.specs.declared.script.Stage.{Stage}
-use Rattle.session_script.specs.declared.script.Stage.TheVariants.{Before}
-use Rattle.carousel_world.specs.Events.{Step, Commit, Draw, Open}
-use Rattle.session.specs.Opened.{Asked, AreOpened, HasOpened}
-use Rattle.session.specs.Seats.{asked_at}
-use Rattle.session.specs.declared.reader.ReaderSeat.{ReaderSeat}
-use Rattle.session.specs.Lines.{draws_in, opens_by, asked_from}
-use Rattle.session.specs.Inner.Plans.{above, before_steps, steps}
-use Rattle.session.specs.Inner.Acting.{AreApart, IsNext, ReaderStands, ReadersStand, Setting, draws_before, draws_of, events_in, reader_plan, readers_of}
+use Rattle.session.proofs.Words.{◌≡◌, ◌≢◌, ◌⊎◌, inl, arith, ℕ, suc, ◌+◌, ◌<◌, ◌≤◌, ◌==◌, Bool, List, [], ◌∷◌, ◌++◌, map, length, refl, sym, ap, ◌∙◌, subst, append-nil, ne_eqb, eq-eqb, inr, slice_set, slice_index_or, if◌then◌else◌, IsPrefix, dite, ℕ_discrete, get_or-map, get_or-set_other, length-set, length-map, length-append, get_or-set_at, map-set_same, cases_Bool, PathNames, Shot, prefix_length, IsSameReader, OpenEntry, Stage, Before, Step, Commit, Draw, Open, Asked, AreOpened, HasOpened, asked_at, ReaderSeat, draws_in, asked_from, opens_by, above, before_steps, steps, AreApart, IsNext, ReaderStands, ReadersStand, Setting, draws_before, draws_of, events_in, reader_plan, readers_of}
 use Rattle.session.proofs.Staged.{above_more, asked_more, count_all, count_done, opens_more, unstaged}
 
 -- ---- what is asked of a reader
@@ -41,16 +19,14 @@ asked_one reader setting done e =
 
 -- an event that is no open of the reader
 asked_idle : (reader : ℕ) (setting : Setting) (done : List Step) (e : Step) → opens_by reader (e ∷ []) ≡ [] → asked_in reader setting (done ++ e ∷ []) ≡ asked_in reader setting done
-asked_idle reader setting done e none =
-    asked_one reader setting done e
+asked_idle reader setting done e none = asked_one reader setting done e
     ∙ ap (λ (zs : List Asked). asked_in reader setting done ++ zs) (asked_none reader (draws_before setting) (draws_of setting) (0 + length (draws_in (steps (above done)))) (Before, e) none)
     ∙ append-nil (asked_in reader setting done)
 
 -- an open of the reader
 asked_next : (reader : ℕ) (setting : Setting) (done : List Step) (path : PathNames)
     → asked_in reader setting (done ++ Open reader path ∷ []) ≡ asked_in reader setting done ++ asked_at (length (draws_in done)) path ∷ []
-asked_next reader setting done path =
-    let n = length (draws_in (steps (above done))) in
+asked_next reader setting done path = let n = length (draws_in (steps (above done))) in
     let same : 0 + n ≡ length (draws_in done) = let e = ap (λ (es : List Step). length (draws_in es)) (unstaged Before done) in omega (arith, e) in
     asked_one reader setting done (Open reader path)
     ∙ ap (λ (zs : List Asked). asked_in reader setting done ++ zs)
@@ -92,8 +68,7 @@ asked_count reader before all above ((stage, Open r path) ∷ es) =
 -- there is room for an open that comes next
 pub has_room : (setting : Setting) (done : List Step) (shots : List Shot) (seat : ReaderSeat) (path : PathNames) → ReaderStands setting done shots seat
     → IsNext setting done (Open seat.pass.reader path) → length seat.pass.opens < seat.pass.room
-has_room setting done shots seat path st next =
-    let r = seat.pass.reader in
+has_room setting done shots seat path st next = let r = seat.pass.reader in
     let opened = opened_count (asked_in r setting done) seat.pass.opens st.opened.opened in
     let asked = asked_count r (draws_before setting) (draws_of setting) 0 (above done) in
     let plain = ap (λ (es : List Step). length (opens_by r es)) (unstaged Before done) in
@@ -102,9 +77,7 @@ has_room setting done shots seat path st next =
     ∙ length-append (opens_by r done) (opens_by r (Open r path ∷ next.0)) in
     let one : length (opens_by r (Open r path ∷ next.0)) ≡ suc (length (opens_by r next.0)) =
     ap (λ (t : Bool). length ((if t then path ∷ [] else []) ++ opens_by r next.0)) (eq-eqb r r refl) in
-    let first = count_done (opens_by r) (opens_more r) setting in
-    let all = count_all (opens_by r) (opens_more r) setting in
-    let room = st.room in
+    let first = count_done (opens_by r) (opens_more r) setting in let all = count_all (opens_by r) (opens_more r) setting in let room = st.room in
     omega (arith, opened, asked, plain, before, one, first, all, room)
 
 -- the reader opened a path
@@ -112,11 +85,8 @@ stands_opened : (setting : Setting) (done : List Step) (shots : List Shot) (old 
     → length shots ≡ length (draws_in done) + 1
     → ((least : ℕ) (asked : List Asked) → (least + 1 ≤ length old.pass.told) ⊎ (least + 1 ≤ length old.pass.known) → HasOpened asked old.pass → HasOpened (asked ++ asked_at least path ∷ []) new.pass)
     → ReaderStands setting done shots old → ReaderStands setting (done ++ Open old.pass.reader path ∷ []) shots new
-stands_opened setting done shots old new path same told few count opens st =
-    let r = old.pass.reader in
-    let least = length (draws_in done) in
-    let known = prefix_length shots old.pass.told st.told in
-    record {
+stands_opened setting done shots old new path same told few count opens st = let r = old.pass.reader in let least = length (draws_in done) in
+    let known = prefix_length shots old.pass.told st.told in record {
       board_is = same.2 ∙ st.board_is;
       most_is = same.3 ∙ st.most_is;
       few = few;
@@ -140,8 +110,7 @@ module _ (seats : List ReaderSeat) (place : ℕ) (was new : ReaderSeat) (there :
   seat_set : (setting : Setting) (done : List Step) (shots : List Shot) (e : Step) → AreApart (readers_of seats) → ReaderStands setting (done ++ e ∷ []) shots new
       → ((r : ℕ) → r ≢ was.pass.reader → opens_by r (e ∷ []) ≡ []) → ReadersStand setting done shots seats → ReadersStand setting (done ++ e ∷ []) shots (slice_set seats place new)
   seat_set setting done shots e apart its others st = λ k d lt.
-      let below : k < length seats = let l = length-set seats place new in omega (arith, l, lt) in
-      dite (ℕ_discrete k place)
+      let below : k < length seats = let l = length-set seats place new in omega (arith, l, lt) in dite (ℕ_discrete k place)
       (λ eq. subst (λ (seat : ReaderSeat). ReaderStands setting (done ++ e ∷ []) shots seat) (sym (get_or-set_at seats place k new d eq there)) its)
       (λ ne. subst (λ (seat : ReaderSeat). ReaderStands setting (done ++ e ∷ []) shots seat) (sym (get_or-set_other seats place k new d ne))
       (stands_idle setting done shots (slice_index_or seats k d) e
@@ -157,8 +126,7 @@ module _ (seats : List ReaderSeat) (place : ℕ) (was new : ReaderSeat) (there :
       → ((least : ℕ) (asked : List Asked) → (least + 1 ≤ length was.pass.told) ⊎ (least + 1 ≤ length was.pass.known) → HasOpened asked was.pass → HasOpened (asked ++ asked_at least path ∷ []) new.pass)
       → (setting : Setting) (done : List Step) (shots : List Shot) → ReadersStand setting done shots seats → length shots ≡ length (draws_in done) + 1
       → ReadersStand setting (done ++ Open reader path ∷ []) shots (slice_set seats place new)
-  opened_now reader path its apart all told few opens setting done shots st count =
-      seat_set setting done shots (Open reader path) apart
+  opened_now reader path its apart all told few opens setting done shots st count = seat_set setting done shots (Open reader path) apart
       (subst (λ (n : ℕ). ReaderStands setting (done ++ Open n path ∷ []) shots new) its
       (stands_opened setting done shots was new path all told few count opens (stands_was setting done shots st)))
       (λ r ne. not_its r reader path (λ eq. ne (sym eq ∙ sym its))) st

@@ -1,29 +1,19 @@
 -- When there is no room for a commit.
-use Rattle.std.proofs.Common.{◌≡◌, ℕ, ◌+◌, ◌==◌, Bool, true, false, cond, nat_lt, List, [], ◌∷◌, ◌++◌, length, Option, Some, None, Result, Ok, Err, count_by, ◌⊎◌, inl, inr, sym, ap, ◌∙◌, refl, arith, length-append, eqb-true, ltb-true}
-use Rattle.std.proofs.lemmas.List.Sums.{sum_by-append}
+use Rattle.session.proofs.Words.{◌≡◌, ℕ, ◌+◌, ◌==◌, Bool, true, false, cond, nat_lt, List, [], ◌∷◌, ◌++◌, length, Option, Some, None, Result, Ok, Err, count_by, ◌⊎◌, inl, inr, sym, ap, ◌∙◌, refl, arith, length-append, eqb-true, ltb-true, sum_by-append, Tree, Edit, HistoriesGrow, CatalogueState, put_bytes, put_bytes_of, journal_of, current_of, trees_of, trees_after, with_tree, last_tree, or_same, outcome_of, unless_edit, unless_limit, is_entered, Entry, is_made, IsFullAfter, count_more, count_same}
 use Rattle.oc_bytes.specs.Outcome.{cap_at_u64}
-use Rattle.path_tree.specs.Trees.{Tree}
 use Rattle.path_tree.specs.Edits.{apply_all}
-use Rattle.path_tree.specs.declared.tree.Edit.{Edit}
 use Rattle.path_tree.specs.declared.tree.EditFault.{EditFault}
 use Rattle.generation.specs.Publication as limits
-use Rattle.generation_catalogue.specs.Laws.{HistoriesGrow}
-use Rattle.generation_catalogue.specs.History.{CatalogueState, put_bytes, put_bytes_of, journal_of, current_of, trees_of, trees_after, with_tree, last_tree, or_same, outcome_of, unless_edit, unless_limit, is_entered}
 use Rattle.generation_catalogue.specs.declared.entry.Refusal.TheVariants as refusals
-use Rattle.generation_catalogue.specs.declared.entry.Entry.{Entry}
 use Rattle.generation_catalogue.specs.declared.entry.Entry.TheVariants as entries
-use Rattle.session.specs.Gathering.{is_made, IsFullAfter}
-use Rattle.history_merge.proofs.CallerLemmas.{count_more, count_same}
 use Rattle.session.proofs.Lists.{count_append}
 
 -- each accepted commit makes a tree
 trees_made : (es : List Entry) (ts : List Tree) → length (trees_after ts es) ≡ length ts + count_by is_made es
 trees_made [] ts = omega arith
-trees_made (entries.Commit editor edits (Ok number) ∷ es) ts =
-    let rest = trees_made es (with_tree ts edits) in
+trees_made (entries.Commit editor edits (Ok number) ∷ es) ts = let rest = trees_made es (with_tree ts edits) in
     let one = length-append ts (or_same (last_tree ts) (apply_all (last_tree ts) edits) ∷ []) in
-    let more = count_more is_made (entries.Commit editor edits (Ok number)) es refl in
-    omega (arith, rest, one, more)
+    let more = count_more is_made (entries.Commit editor edits (Ok number)) es refl in omega (arith, rest, one, more)
 trees_made (entries.Commit editor edits (Err refusal) ∷ es) ts = trees_made es ts ∙ ap (λ (n : ℕ). length ts + n) (sym (count_same is_made (entries.Commit editor edits (Err refusal)) es refl))
 trees_made (entries.Draw asked generation first count ∷ es) ts = trees_made es ts ∙ ap (λ (n : ℕ). length ts + n) (sym (count_same is_made (entries.Draw asked generation first count) es refl))
 
@@ -50,11 +40,8 @@ pub not_entered : HistoriesGrow → (c : CatalogueState) (edits : List Edit) →
 not_entered grow c edits h = by (by_tests ((current_of c).number == 16383) (nat_lt 536870912 (journal_of c + put_bytes edits)) ((current_of c).number + 1) (journal_of c + put_bytes edits) (apply_all (last_tree (trees_of c)) edits) h)
   where
     by : (((current_of c).number == 16383) ≡ true) ⊎ (nat_lt 536870912 (journal_of c + put_bytes edits) ≡ true) → IsFullAfter c.entries edits
-    by (inl season) =
-        let is : (current_of c).number ≡ 16383 = eqb-true (current_of c).number 16383 season in
-        let trees = grow.number c in
-        let made = trees_made c.entries [] in
-        inl (omega (arith, is, trees, made))
+    by (inl season) = let is : (current_of c).number ≡ 16383 = eqb-true (current_of c).number 16383 season in let trees = grow.number c in
+        let made = trees_made c.entries [] in inl (omega (arith, is, trees, made))
     by (inr journal) = inr (ltb-true 536870912 (journal_of c + put_bytes edits) journal)
 
 -- with more entries there is no room either

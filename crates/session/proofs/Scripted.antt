@@ -1,17 +1,6 @@
 -- What a script's lines make of its events.
-use Rattle.std.proofs.Common.{◌≡◌, ℕ, suc, ◌==◌, Bool, false, cond, List, [], ◌∷◌, ◌++◌, map, All, ap, ◌∙◌, refl, ne_eqb}
-use Rattle.std.specs.Prelude.{if◌then◌else◌}
-use Rattle.std.proofs.lemmas.List.Elements.{All-head, All-tail}
-use Rattle.path_tree.specs.Paths.{PathNames}
-use Rattle.session_script.specs.declared.script.Stage.{Stage}
-use Rattle.session_script.specs.Scripts.{Act, LineFields, Fields}
-use Rattle.session_script.specs.Ranges.{AreListed, IsMentioned}
+use Rattle.session.proofs.Words.{◌≡◌, ℕ, suc, ◌==◌, Bool, false, cond, List, [], ◌∷◌, ◌++◌, map, All, ap, ◌∙◌, refl, ne_eqb, if◌then◌else◌, All-head, All-tail, PathNames, Stage, Act, LineFields, Fields, AreListed, IsMentioned, Step, Commit, Draw, Open, Pending, none_pending, pending_after, events_of_line, events_from, events_of, DrawFields, Asked, staged_from, commits_by, asked_from, asked_of, least_for, all_draws, draws_before_start}
 use Rattle.session_script.specs.Scripts as acts
-use Rattle.carousel_world.specs.Events.{Step, Commit, Draw, Open}
-use Rattle.rehearsal.specs.Lines.{Pending, none_pending, pending_after, events_of_line, events_from, events_of}
-use Rattle.session.specs.Chains.{DrawFields}
-use Rattle.session.specs.Opened.{Asked}
-use Rattle.session.specs.Lines.{staged_from, commits_by, asked_from, asked_of, least_for, all_draws, draws_before_start}
 use Rattle.session.proofs.Committed.{HasNone, not_among}
 use Rattle.session.proofs.Staged.{commits_more}
 
@@ -32,8 +21,7 @@ module _ (editors readers : List ℕ) where
   no_commits : (editor : ℕ) → HasNone editors editor → (p : Pending) (lines : List LineFields) → All (λ (l : LineFields). IsMentioned editors readers l.act) lines
       → commits_by editor (events_from p lines) ≡ []
   no_commits editor lacks p [] m = refl
-  no_commits editor lacks p (l ∷ lines) m =
-      commits_more editor (events_of_line p l.act) (events_from (pending_after p l.act) lines)
+  no_commits editor lacks p (l ∷ lines) m = commits_more editor (events_of_line p l.act) (events_from (pending_after p l.act) lines)
       ∙ (λ i. no_commit editor lacks p l.act (All-head (λ (l : LineFields). IsMentioned editors readers l.act) l lines m) i
       ++ no_commits editor lacks (pending_after p l.act) lines (All-tail (λ (l : LineFields). IsMentioned editors readers l.act) l lines m) i)
 
@@ -51,8 +39,7 @@ module _ (editors readers : List ℕ) where
     none_asked above p stage (acts.RemoveFolder e path) m rest h = h above
     none_asked above p stage (acts.Commit e) m rest h = h above
     none_asked above p stage (acts.Draw asked fates) m rest h = h (suc above)
-    none_asked above p stage (acts.Open r path) m rest h =
-        let other : (r == reader) ≡ false = ne_eqb r reader (not_among readers reader r lacks m) in
+    none_asked above p stage (acts.Open r path) m rest h = let other : (r == reader) ≡ false = ne_eqb r reader (not_among readers reader r lacks m) in
         ap (λ (b : Bool). cond b (asked_one path above stage ∷ []) [] ++ asked_from reader before all above rest) other ∙ h above
     none_asked above p stage acts.Settle m rest h = h (suc (suc above))
 

@@ -1,20 +1,6 @@
 -- The seats of the readers, before any event.
-use Rattle.std.proofs.Common.{◌≡◌, ℕ, suc, ◌+◌, ◌<◌, List, [], ◌∷◌, ◌++◌, map, take, length, refl, sym, ap, ◌∙◌, subst, arith, append-nil, length-append}
-use Rattle.std.specs.Prelude.{slice_index_or}
-use Rattle.std.proofs.lemmas.List.{take_more, take_all}
-use Rattle.std.proofs.lemmas.List.Elements.{All-cons}
-use Rattle.path_tree.specs.Paths.{PathNames}
-use Rattle.path_resolver.specs.declared.shot.Shot.{Shot}
-use Rattle.open_history.specs.Opens.{ReaderView}
-use Rattle.open_history.specs.declared.entry.OpenEntry.{OpenEntry}
-use Rattle.shot_board.specs.declared.viewer.Viewer.{Viewer}
+use Rattle.session.proofs.Words.{◌≡◌, ℕ, suc, ◌+◌, ◌<◌, List, [], ◌∷◌, ◌++◌, map, take, length, refl, sym, ap, ◌∙◌, subst, arith, append-nil, length-append, slice_index_or, take_more, take_all, All-cons, PathNames, Shot, ReaderView, OpenEntry, Viewer, Step, AreOpened, Rises, ReaderSeat, opens_by, before_steps, during_steps, end_steps, steps, IsNewSeat, IsViewerOf, ReaderStands, ReadersStand, Setting, asked_for, events_in, reader_plan}
 use Rattle.shot_board.specs.Shots.{Each}
-use Rattle.carousel_world.specs.Events.{Step}
-use Rattle.session.specs.Opened.{AreOpened, Rises}
-use Rattle.session.specs.declared.reader.ReaderSeat.{ReaderSeat}
-use Rattle.session.specs.Lines.{opens_by}
-use Rattle.session.specs.Inner.Plans.{before_steps, during_steps, end_steps, steps}
-use Rattle.session.specs.Inner.Acting.{IsNewSeat, IsViewerOf, ReaderStands, ReadersStand, Setting, asked_for, events_in, reader_plan}
 use Rattle.session.proofs.Staged.{count_all, count_done, opens_more}
 
 -- seats with these numbers and viewers, each with room for so many opens, and before which these paths of their numbers lie
@@ -57,8 +43,7 @@ module _ (room : ℕ → ℕ) (paths finales : ℕ → List PathNames) where
   pub readers_more : (numbers : List ℕ) (vs : List (Viewer Shot)) (ss : List ReaderSeat) (v : Viewer Shot) (s : ReaderSeat) (n : ℕ) → length vs < length numbers → n ≡ slice_index_or numbers (length ss) n
       → IsNewSeat n (room n) v (paths n) (finales n) s
       → AreNewReaders room paths finales (take (length vs) numbers) vs ss → AreNewReaders room paths finales (take (length (vs ++ v ∷ [])) numbers) (vs ++ v ∷ []) (ss ++ s ∷ [])
-  readers_more numbers vs ss v s n lt number new h =
-      let count = new_readers_count (take (length vs) numbers) vs ss h in
+  readers_more numbers vs ss v s n lt number new h = let count = new_readers_count (take (length vs) numbers) vs ss h in
       let e : take (length (vs ++ v ∷ [])) numbers ≡ take (length vs) numbers ++ n ∷ [] =
       ap (λ (k : ℕ). take k numbers) (length-append vs (v ∷ [])) ∙ take_more numbers (length vs) n lt
       ∙ ap (λ (m : ℕ). take (length vs) numbers ++ m ∷ []) (sym (number ∙ ap (λ (k : ℕ). slice_index_or numbers k n) count)) in
@@ -84,20 +69,14 @@ module _ (room : ℕ → ℕ) (paths finales : ℕ → List PathNames) where
 module _ (before : List Step) (paths finales : ℕ → List PathNames) (setting : Setting) (shots : List Shot) (above_is : before ≡ before_steps setting.parts)
     (below_is : (n : ℕ) → paths n ≡ opens_by n (during_steps setting.parts)) (last_is : (n : ℕ) → finales n ≡ opens_by n (end_steps setting.parts)) (one : length shots ≡ 1) where
   all_opens : (n : ℕ) → room_for before paths finales n ≡ length (opens_by n (steps (events_in setting)))
-  all_opens n =
-      let a = ap (λ (es : List Step). length (opens_by n es)) above_is in
-      let b = ap (λ (ps : List PathNames). length ps) (below_is n) in
-      let c = ap (λ (ps : List PathNames). length ps) (last_is n) in
-      let first = count_done (opens_by n) (opens_more n) setting in
-      let all = count_all (opens_by n) (opens_more n) setting in
-      omega (arith, a, b, c, first, all)
+  all_opens n = let a = ap (λ (es : List Step). length (opens_by n es)) above_is in let b = ap (λ (ps : List PathNames). length ps) (below_is n) in
+      let c = ap (λ (ps : List PathNames). length ps) (last_is n) in let first = count_done (opens_by n) (opens_more n) setting in
+      let all = count_all (opens_by n) (opens_more n) setting in omega (arith, a, b, c, first, all)
 
   new_stands : (n : ℕ) (v : Viewer Shot) (s : ReaderSeat) → IsNewSeat n (room_for before paths finales n) v (paths n) (finales n) s → IsViewerOf setting shots v → ReaderStands setting [] shots s
-  new_stands n v s h w =
-      let reader : s.pass.reader ≡ n = ap (λ (p : ReaderView). p.reader) h.0 in
+  new_stands n v s h w = let reader : s.pass.reader ≡ n = ap (λ (p : ReaderView). p.reader) h.0 in
       let known : s.pass.known ≡ shots = ap (λ (p : ReaderView). p.known) h.0 ∙ w.2 in
-      let told : s.pass.told ≡ shots = ap (λ (p : ReaderView). p.told) h.0 ∙ w.3 in
-      let opens : s.pass.opens ≡ [] = ap (λ (p : ReaderView). p.opens) h.0 in
+      let told : s.pass.told ≡ shots = ap (λ (p : ReaderView). p.told) h.0 ∙ w.3 in let opens : s.pass.opens ≡ [] = ap (λ (p : ReaderView). p.opens) h.0 in
       record {
         board_is = ap (λ (p : ReaderView). p.board) h.0 ∙ w.0;
         most_is = ap (λ (p : ReaderView). p.most) h.0 ∙ w.1;

@@ -1,36 +1,9 @@
 -- What the readers opened, by the drawings that their shots had heard; and that what was played is a session.
-use Rattle.std.proofs.Common.{◌≡◌, ℕ, suc, ◌≤◌, true, List, [], ◌∷◌, ◌++◌, length, filter, drop, get_or, count_by, ◌⊎◌, inl, inr, sym, ap, ◌∙◌, refl, subst, arith, ◌≢◌, zero, ◌+◌, ◌<◌, ◌==◌, Bool, false, cond, map, Some, slice_get, nat_eq, ne_eqb}
-use Rattle.std.proofs.lemmas.List.{length-map}
-use Rattle.path_tree.specs.declared.tree.Edit.{Edit}
-use Rattle.ts_packet.specs.declared.Fate.{Fate}
-use Rattle.path_resolver.specs.declared.shot.Shot.{Shot}
-use Rattle.open_history.specs.Opens.{ReaderView, AllAnswered, Answered}
-use Rattle.generation.specs.Lawful.{ArePublishable}
-use Rattle.generation_catalogue.specs.Laws.{HistoriesGrow}
-use Rattle.generation_catalogue.specs.History.{CatalogueState, is_draw, trees_of}
-use Rattle.generation_catalogue.specs.declared.entry.Entry.{Entry}
+use Rattle.session.proofs.Words.{◌≡◌, ℕ, suc, ◌≤◌, true, List, [], ◌∷◌, ◌++◌, length, filter, drop, get_or, count_by, ◌⊎◌, inl, inr, sym, ap, ◌∙◌, refl, subst, arith, ◌≢◌, zero, ◌+◌, ◌<◌, ◌==◌, Bool, false, cond, map, Some, slice_get, nat_eq, ne_eqb, length-map, Edit, Fate, Shot, ReaderView, AllAnswered, Answered, ArePublishable, HistoriesGrow, CatalogueState, is_draw, trees_of, Entry, Commit, Draw, Open, Step, Drawing, MeetsHeadline, world_after, EverySettledRunIsWhole, EverySettledRunOpens, OpenEntry, Each, merge_of, drawn_with, opened_of, drawings_after, AreAnswered, IsRunOfWorld, candidates_after, IsAnswered, is_draw_step, is_open_by, IsPlaced, IsInOrder, AreParts, IsReady, IsMerged, EveryMergeIsMerged, AreNumbers, merged_is_published, count_more, count_same, Fields, events_of, DrawFields, AreShots, AreOpened, Asked, Rises, HasOpened, script_of_parts, AreListed, IsInRanges, IsActor, AreActors, commits_by, draws_in, asked_of, settles, asked_in, AreCommitted, AreKnown, AreOnShots, IsShown, EndsSettled, IsSession, IsPlayed, fates_of, PlayedIsASession, AllRead, eqb-false, AllByRecursion, IsDistinct, All-get_or, view, Snapshot, snapshot_after, answer_after, Reply}
 use Rattle.generation_catalogue.specs.declared.entry.Entry.TheVariants as entries
-use Rattle.carousel_world.specs.Events.{Commit, Draw, Open, Step}
-use Rattle.carousel_world.specs.World.{Drawing}
-use Rattle.carousel_world.specs.Promises.{MeetsHeadline, world_after}
-use Rattle.carousel_world.specs.Settling.{EverySettledRunIsWhole, EverySettledRunOpens}
-use Rattle.open_history.specs.declared.entry.OpenEntry.{OpenEntry}
 use Rattle.history_merge.specs.Laws.{with_draws_before, NeverFall}
-use Rattle.history_merge.specs.Merging.{Each, merge_of, drawn_with, opens_by, opened_of}
-use Rattle.history_merge.specs.Merges.{drawings_after, AreAnswered, IsRunOfWorld, candidates_after, IsAnswered}
-use Rattle.history_merge.specs.Merged.{is_draw_step, is_open_by, IsPlaced, IsInOrder, AreParts, IsReady, IsMerged, EveryMergeIsMerged, AreNumbers, AreApart}
-use Rattle.history_merge.proofs.CallerLemmas.{merged_is_published, count_more, count_same}
-use Rattle.session_script.specs.Scripts.{Fields}
-use Rattle.rehearsal.specs.Lines.{events_of}
-use Rattle.session.specs.Chains.{DrawFields}
-use Rattle.session.specs.Shown.{AreShots}
-use Rattle.session.specs.Opened.{AreOpened, Asked, Rises, HasOpened}
-use Rattle.session_script.specs.Parts.{script_of_parts}
-use Rattle.session_script.specs.Ranges.{AreListed, IsInRanges, IsActor, AreActors}
-use Rattle.session.specs.Lines.{commits_by, draws_in, asked_of, settles}
-use Rattle.session.specs.Gathering.{asked_in}
-use Rattle.session.specs.Sessions.{AreCommitted, AreKnown, AreOnShots, IsShown, EndsSettled, IsSession}
-use Rattle.session.specs.Played.{IsPlayed, fates_of, PlayedIsASession, AllRead}
+use Rattle.history_merge.specs.Merging.{opens_by}
+use Rattle.history_merge.specs.Merged.{AreApart}
 use Rattle.session.proofs.Feeding.{fates_in, asked_by}
 use Rattle.session.proofs.Telling.{Told, Tells, merge_tells, none_of_other}
 use Rattle.session.proofs.Committed.{committed, HasPlace, HasNone, find_place, place_mapped}
@@ -38,15 +11,9 @@ use Rattle.session.proofs.Parted.{settles_last}
 use Rattle.session.proofs.Scripted.{none_of_editor, none_of_reader, EndsDrawn}
 use Rattle.session.proofs.InPlace.{opens_in_place}
 use Rattle.session.proofs.Settled.{steps, ends_settled, ends_whole, ends_answered}
-use Rattle.std.proofs.lemmas.Bool.{eqb-false}
-use Rattle.std.specs.List.{AllByRecursion, IsDistinct}
-use Rattle.std.proofs.lemmas.List.Elements.{All-get_or}
 use Rattle.std.proofs.lemmas.Map.Keys.{IsDistinct-head, IsDistinct-tail}
 use Rattle.path_resolver.specs.Resolving.{answer_of}
-use Rattle.path_resolver.specs.Shots.{view, Snapshot}
-use Rattle.tuner_core.specs.LookBack.{snapshot_after, answer_after}
 use Rattle.carousel_world.specs.Receptions.{label_after}
-use Rattle.carousel_world.specs.declared.event.Reply.{Reply}
 
 -- ---- one open, on the shot of its number
 
@@ -56,13 +23,11 @@ pub record IsHeard (drawings : List Drawing) (e : OpenEntry) : Type 0 where
   pub answer : e.answer ≡ answer_after (candidates_after drawings e.shot) e.path
 
 heard_on : (drawings : List Drawing) (shots : List Shot) (e : OpenEntry) → AreShots drawings shots → Answered shots e → IsHeard drawings e
-heard_on drawings shots e are h =
-    let same : view h.0 ≡ snapshot_after e.shot e.shot (candidates_after drawings e.shot) = are.each e.shot h.0 h.1 in
-    record {
-      draws = h.3 ∙ ap (λ (s : Snapshot). s.draws) same;
-      label = h.4 ∙ ap (λ (s : Snapshot). s.held.label) same;
-      answer = h.5 ∙ ap (λ (s : Snapshot). answer_of s.held e.path) same;
-    }
+heard_on drawings shots e are h = let same : view h.0 ≡ snapshot_after e.shot e.shot (candidates_after drawings e.shot) = are.each e.shot h.0 h.1 in record {
+  draws = h.3 ∙ ap (λ (s : Snapshot). s.draws) same;
+  label = h.4 ∙ ap (λ (s : Snapshot). s.held.label) same;
+  answer = h.5 ∙ ap (λ (s : Snapshot). answer_of s.held e.path) same;
+}
 
 all_heard : (drawings : List Drawing) (shots : List Shot) → AreShots drawings shots → (es : List OpenEntry) → AllAnswered shots es → Each (IsHeard drawings) es
 all_heard drawings shots are [] h = tt
@@ -87,10 +52,7 @@ rises_le first (e ∷ es) last h = let low = h.0 in let high = rises_le (e.shot 
 never : (drawings : List Drawing) (b first last : ℕ) (es : List OpenEntry) → ((n : ℕ) → first ≤ n + 1 → b ≤ n) → Each (IsHeard drawings) es → Rises first es (last + 1)
     → NeverFall b last es
 never drawings b first last [] low h r = tt
-never drawings b first last (e ∷ es) low h r =
-    let here = (h.0).draws in
-    let least = low e.shot r.0 in
-    let most = rises_le (e.shot + 1) es (last + 1) r.1 in
+never drawings b first last (e ∷ es) low h r = let here = (h.0).draws in let least = low e.shot r.0 in let most = rises_le (e.shot + 1) es (last + 1) r.1 in
     (omega (arith, here, least), omega (arith, here, most), never drawings e.draws (e.shot + 1) last es (λ n k. omega (arith, here, k)) h.1 r.1)
 
 -- ---- each reader
@@ -104,13 +66,11 @@ module _ (script : Fields) (drawings : List Drawing) (shots : List Shot) (are : 
   heard_by v known h = all_heard drawings shots are v.opens (subst (λ (l : List Shot). AllAnswered l v.opens) known h)
 
   in_order_one : (v : ReaderView) (asked : List Asked) → IsActor v.reader → HasOpened asked v → v.known ≡ shots → AllAnswered v.known v.opens → IsInOrder (length drawings) v
-  in_order_one v asked actor opened known h =
-      let count : length v.known ≡ length drawings + 1 = ap length known ∙ are.count in
-      record {
-        some = actor.at_least;
-        most = actor.at_most;
-        rising = never drawings 0 0 (length drawings) v.opens (λ n k. omega arith) (heard_by v known h) (subst (λ (n : ℕ). Rises 0 v.opens n) count opened.rises);
-      }
+  in_order_one v asked actor opened known h = let count : length v.known ≡ length drawings + 1 = ap length known ∙ are.count in record {
+    some = actor.at_least;
+    most = actor.at_most;
+    rising = never drawings 0 0 (length drawings) v.opens (λ n k. omega arith) (heard_by v known h) (subst (λ (n : ℕ). Rises 0 v.opens n) count opened.rises);
+  }
 
   pub in_order : (rs : List ℕ) (vs : List ReaderView) → AllRead script shots rs vs → ((p : ℕ) → p < length rs → IsActor (get_or rs p 0)) → Each (IsInOrder (length drawings)) vs
   in_order [] [] h actor = tt
@@ -132,17 +92,13 @@ module _ (script : Fields) (drawings : List Drawing) (shots : List Shot) (are : 
   told_opens reader [] [] h a = tt
   told_opens reader [] (e ∷ es) h a = absurd h
   told_opens reader (ask ∷ asked) [] h a = absurd h
-  told_opens reader (ask ∷ asked) (e ∷ es) h a =
-      let here = (heard_on drawings shots e are a.0).draws in
-      let least = h.1 in
+  told_opens reader (ask ∷ asked) (e ∷ es) h a = let here = (heard_on drawings shots e are a.0).draws in let least = h.1 in
       (ap (Open reader) h.0, omega (arith, here, least), told_opens reader asked es h.2 a.1)
 
   -- and stands on the shot of so many draws as are before it
   pub on_shots : (reader : ℕ) (es : List OpenEntry) → AllAnswered shots es → AreOnShots shots (told_by reader es)
   on_shots reader [] h = tt
-  on_shots reader (e ∷ es) h =
-      let s = h.0 in
-      ((s.0, ap (slice_get shots) ((heard_on drawings shots e are s).draws) ∙ s.1, s.4, s.5), on_shots reader es h.1)
+  on_shots reader (e ∷ es) h = let s = h.0 in ((s.0, ap (slice_get shots) ((heard_on drawings shots e are s).draws) ∙ s.1, s.4, s.5), on_shots reader es h.1)
 
 -- ---- numbers
 
@@ -195,8 +151,7 @@ module _ (script : Fields) (shots : List Shot) where
   none_opened [] [] reader h lacks = refl
   none_opened [] (v ∷ vs) reader h lacks = absurd h
   none_opened (r ∷ rs) [] reader h lacks = absurd h
-  none_opened (r ∷ rs) (v ∷ vs) reader h lacks =
-      let other : (v.reader == reader) ≡ false = ne_eqb v.reader reader (λ e. lacks 0 (omega arith) (sym h.0 ∙ e)) in
+  none_opened (r ∷ rs) (v ∷ vs) reader h lacks = let other : (v.reader == reader) ≡ false = ne_eqb v.reader reader (λ e. lacks 0 (omega arith) (sym h.0 ∙ e)) in
       ap (λ (b : Bool). cond b v.opens [] ++ opens_by reader vs) other
       ∙ none_opened rs vs reader h.4 (λ p less. lacks (suc p) (omega (arith, less)))
 
@@ -215,10 +170,8 @@ draws_with editors [] [] h = refl
 draws_with editors (l ∷ lines) [] h = absurd (cc)
 draws_with editors lines (entries.Commit editor edits outcome ∷ es) h = draws_with editors lines es h
 draws_with editors [] (entries.Draw asked generation first count ∷ es) h = absurd (cc)
-draws_with editors (l ∷ lines) (entries.Draw asked generation first count ∷ es) h =
-    let same : asked ≡ l.asked = cc in
-    let rest = draws_with editors lines es (cc) in
-    λ i. record { asked = same i; fates = l.fates } ∷ rest i
+draws_with editors (l ∷ lines) (entries.Draw asked generation first count ∷ es) h = let same : asked ≡ l.asked = cc in
+    let rest = draws_with editors lines es (cc) in λ i. record { asked = same i; fates = l.fates } ∷ rest i
 
 asked_count : (es : List Entry) → length (asked_in es) ≡ count_by is_draw es
 asked_count [] = refl
@@ -274,8 +227,7 @@ module _ (script : Fields) (c : CatalogueState) (drawings : List Drawing) (shots
   commits editor = by (find_place script.editors editor)
     where
       by : HasPlace script.editors editor ⊎ HasNone script.editors editor → AreCommitted editor [] (commits_by editor (events_of script)) merge
-      by (inl h) =
-          subst (λ (n : ℕ). AreCommitted n [] (commits_by n (events_of script)) merge) h.2
+      by (inl h) = subst (λ (n : ℕ). AreCommitted n [] (commits_by n (events_of script)) merge) h.2
           (committed script.editors ready.numbers h.0 h.1 (commits_by (get_or script.editors h.0 0) (events_of script)) [] c.entries [] merge refl tells
           ((p.gathered).commits h.0 (commits_by (get_or script.editors h.0 0) (events_of script)) (place_mapped (λ (e : ℕ). commits_by e (events_of script)) script.editors h.0 h.1)))
       by (inr lacks) =
@@ -292,9 +244,7 @@ module _ (script : Fields) (c : CatalogueState) (drawings : List Drawing) (shots
     of_reader P reader some most made none = subst P (sym (m.opens reader some most)) (by (find_place script.readers reader))
       where
         by : HasPlace script.readers reader ⊎ HasNone script.readers reader → P (told_by reader (opens_by reader readers))
-        by (inl h) =
-            let r = reader_at script shots script.readers readers p.read h.0 h.1 in
-            let v : ReaderView = r.0 in
+        by (inl h) = let r = reader_at script shots script.readers readers p.read h.0 h.1 in let v : ReaderView = r.0 in
             let its : opens_by reader readers ≡ v.opens = ap (λ (n : ℕ). opens_by n readers) (sym (r.2 ∙ h.2)) ∙ m.own h.0 v r.1 in
             subst (λ (os : List OpenEntry). P (told_by reader os)) (sym its) (made v.opens (subst (λ (n : ℕ). AreOpened (asked_of n script) v.opens) h.2 r.3) r.4)
         by (inr lacks) = subst (λ (os : List OpenEntry). P (told_by reader os)) (sym (none_opened script shots script.readers readers reader p.read lacks)) (none lacks)

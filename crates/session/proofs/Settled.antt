@@ -1,33 +1,9 @@
 -- The end of a history that settles.
-use Rattle.std.proofs.Common.{◌≡◌, ℕ, ◌+◌, ◌≤◌, nat_le, List, [], ◌∷◌, ◌++◌, length, map, filter, All, sym, ap, ◌∙◌, refl, subst, arith, append_assoc, length-append}
-use Rattle.std.proofs.lemmas.List.{map-append, same_from_push}
-use Rattle.std.proofs.lemmas.List.Elements.{All-head, All-tail, All-nil, All-cons}
-use Rattle.std.proofs.lemmas.Bool.{cond_both}
-use Rattle.ts_packet.specs.declared.Fate.{Fate}
-use Rattle.path_tree.specs.declared.tree.Edit.{Edit}
-use Rattle.path_tree.specs.Paths.{PathNames}
-use Rattle.path_tree.specs.Trees.{node_at}
+use Rattle.session.proofs.Words.{◌≡◌, ℕ, ◌+◌, ◌≤◌, nat_le, List, [], ◌∷◌, ◌++◌, length, map, filter, All, sym, ap, ◌∙◌, refl, subst, arith, append_assoc, length-append, map-append, same_from_push, All-head, All-tail, All-nil, All-cons, cond_both, Fate, Edit, PathNames, node_at, ArePublishable, tree_at, HistoriesGrow, CatalogueState, with_commit, with_draw, trees_of, current_of, cursor_of, count_drawn, outcome_of, is_entered, with_entry, is_draw, Entry, Step, Commit, Draw, Open, WorldState, initial_world, happens, after_all, drawing_of, candidates_in, reply_to, replies_to, IsUndamaged, world_after, broadcast_of, IsOpening, with_settling, Answers, EverySettledRunIsWhole, EverySettledRunOpens, Reply, opens_leave, after_all-append, settled_among_opens, settling_step, Each, is_draw_step, IsRunOfWorld, DrawFields, draws_in, IsSettled, EndsSettled, EndsWhole, EndsAnswered}
 use Rattle.cycle_planner.specs.Weights.{AreWeights}
-use Rattle.generation.specs.Lawful.{ArePublishable, tree_at}
-use Rattle.generation_catalogue.specs.Laws.{HistoriesGrow}
-use Rattle.generation_catalogue.specs.History.{CatalogueState, with_commit, with_draw, draws_of, trees_of, current_of, cursor_of, count_drawn, outcome_of, is_entered, with_entry, is_draw}
-use Rattle.generation_catalogue.specs.declared.entry.Entry.{Entry}
+use Rattle.generation_catalogue.specs.History.{draws_of}
 use Rattle.generation_catalogue.specs.declared.entry.Entry.TheVariants as entries
-use Rattle.carousel_world.specs.Events.{Step, Commit, Draw, Open}
-use Rattle.carousel_world.specs.World.{WorldState, initial_world, happens, after_all, drawing_of, candidates_in, reply_to, replies_to}
 use Rattle.carousel_world.specs.Premises.{IsWhole}
-use Rattle.carousel_world.specs.Promises.{IsUndamaged, world_after, broadcast_of}
-use Rattle.carousel_world.specs.Settling.{IsOpening, with_settling, Answers, EverySettledRunIsWhole, EverySettledRunOpens}
-use Rattle.carousel_world.specs.declared.event.Reply.{Reply}
-use Rattle.carousel_world.proofs.CallerLemmas.{opens_leave, after_all-append, settled_among_opens}
-use Rattle.rehearsal.specs.Lines.{settling_step}
-use Rattle.history_merge.specs.Merging.{Each}
-use Rattle.history_merge.specs.Merged.{is_draw_step}
-use Rattle.history_merge.specs.Merges.{IsRunOfWorld}
-use Rattle.session.specs.Chains.{DrawFields}
-use Rattle.session.specs.Lines.{draws_in}
-use Rattle.session.specs.Played.{IsSettled}
-use Rattle.session.specs.Sessions.{EndsSettled, EndsWhole, EndsAnswered}
 use Rattle.session.proofs.Lists.{count_append}
 use Rattle.session.proofs.Telling.{Told, IsOpenTold, Tells, tells_cut, only_opens}
 use Rattle.session.proofs.Scripted.{settling_draw, EndsDrawn}
@@ -47,10 +23,7 @@ same_trees grow w asked fates = cond_both (nat_le 16777216 (draws_of w.catalogue
 
 published_before : HistoriesGrow → (w : WorldState) → let v = happens (happens w settling_step) settling_step in ArePublishable v.catalogue.carousel (trees_of v.catalogue)
     → ArePublishable w.catalogue.carousel (trees_of w.catalogue)
-published_before grow w h =
-    let v = happens w settling_step in
-    let first = same_trees grow w 1048576 [] in
-    let second = same_trees grow v 1048576 [] in
+published_before grow w h = let v = happens w settling_step in let first = same_trees grow w 1048576 [] in let second = same_trees grow v 1048576 [] in
     let middle : ArePublishable v.catalogue.carousel (trees_of v.catalogue) =
     subst (λ n. ArePublishable n (trees_of v.catalogue)) second.0 (subst (ArePublishable (happens v settling_step).catalogue.carousel) second.1 h) in
     subst (λ n. ArePublishable n (trees_of w.catalogue)) first.0 (subst (ArePublishable v.catalogue.carousel) first.1 middle)
@@ -63,8 +36,7 @@ commit_count c editor edits =
     (λ _. let a = count_append is_draw c.entries (entries.Commit editor edits (outcome_of c edits) ∷ []) in omega (arith, a)) (λ _. refl)
 
 draw_count : (w : WorldState) (asked : ℕ) (fates : List Fate) → draws_of (happens w (Draw asked fates)).catalogue ≤ draws_of w.catalogue + 1
-draw_count w asked fates =
-    let more : draws_of (with_draw w.catalogue asked) ≡ draws_of w.catalogue + 1 =
+draw_count w asked fates = let more : draws_of (with_draw w.catalogue asked) ≡ draws_of w.catalogue + 1 =
     count_append is_draw w.catalogue.entries (entries.Draw asked (current_of w.catalogue).number (cursor_of w.catalogue) (count_drawn w.catalogue asked) ∷ []) in
     cond_both (nat_le 16777216 (draws_of w.catalogue)) w (drawn w asked fates) (λ (v : WorldState). draws_of v.catalogue ≤ draws_of w.catalogue + 1) (λ _. omega arith) (λ _. omega (arith, more))
 
@@ -91,19 +63,14 @@ record Settles (ws : List ℕ) (events : List Step) : Type 0 where
 
 settles_so : HistoriesGrow → (ws : List ℕ) (events : List Step) → EndsSettled events
     → ArePublishable (world_after 1 ws events).catalogue.carousel (trees_of (world_after 1 ws events).catalogue) → length (draws_in events) ≤ 16777216 → Settles ws events
-settles_so grow ws events ends published few =
-    let before : List Step = ends.0 in
-    let w : WorldState = world_after 1 ws (with_settling before) in
+settles_so grow ws events ends published few = let before : List Step = ends.0 in let w : WorldState = world_after 1 ws (with_settling before) in
     let same : world_after 1 ws events ≡ w = ap (world_after 1 ws) ends.3 ∙ settled_among_opens 1 ws before ends.1 ends.2 ends.4 ends.5 in
     let twice : w ≡ happens (happens (world_after 1 ws before) settling_step) settling_step = after_all-append (initial_world 1 ws) before (settling_step ∷ settling_step ∷ []) in
     let IsGood : WorldState → Type 0 = λ v. ArePublishable v.catalogue.carousel (trees_of v.catalogue) in
     let parts : draws_in events ≡ draws_in before ++ settling_draw ∷ (draws_in ends.1 ++ settling_draw ∷ draws_in ends.2) =
     ap draws_in ends.3 ∙ draws_more before (settling_step ∷ (ends.1 ++ settling_step ∷ ends.2)) ∙ ap (λ l. draws_in before ++ settling_draw ∷ l) (draws_more ends.1 (settling_step ∷ ends.2)) in
-    let counted = ap length parts in
-    let outer = length-append (draws_in before) (settling_draw ∷ (draws_in ends.1 ++ settling_draw ∷ draws_in ends.2)) in
-    let inner = length-append (draws_in ends.1) (settling_draw ∷ draws_in ends.2) in
-    let bound = draws_few (initial_world 1 ws) before in
-    record {
+    let counted = ap length parts in let outer = length-append (draws_in before) (settling_draw ∷ (draws_in ends.1 ++ settling_draw ∷ draws_in ends.2)) in
+    let inner = length-append (draws_in ends.1) (settling_draw ∷ draws_in ends.2) in let bound = draws_few (initial_world 1 ws) before in record {
       before = before;
       same = same;
       published = published_before grow (world_after 1 ws before) (subst IsGood (same ∙ twice) published);
@@ -113,8 +80,7 @@ settles_so grow ws events ends published few =
 pub ends_whole : HistoriesGrow → EverySettledRunIsWhole → (ws : List ℕ) (events : List Step) → AreWeights ws → EndsSettled events
     → ArePublishable (world_after 1 ws events).catalogue.carousel (trees_of (world_after 1 ws events).catalogue) → length (draws_in events) ≤ 16777216
     → EndsWhole ws events
-ends_whole grow law ws events weigh ends published few =
-    let s = settles_so grow ws events ends published few in
+ends_whole grow law ws events weigh ends published few = let s = settles_so grow ws events ends published few in
     subst (λ (v : WorldState). IsWhole 1 (broadcast_of v).layouts (length (trees_of v.catalogue)) (candidates_in v)) (sym s.same) (law 1 ws s.before weigh s.published s.room)
 
 abbrev pub steps : List Told → List Step
@@ -140,19 +106,16 @@ all_behind (x ∷ b) a e h = all_behind b a e (All-tail IsOpening x (b ++ e ∷ 
 opens_last : (xs z b a : List Step) (reader : ℕ) (path : PathNames) → xs ++ settling_step ∷ z ≡ b ++ Open reader path ∷ a → All IsOpening z → draws_in a ≡ [] → All IsOpening a
 opens_last [] z [] a reader path h opens none = absurd (cc)
 opens_last [] z (y ∷ b) a reader path h opens none = let e : z ≡ b ++ Open reader path ∷ a = cc in all_behind b a (Open reader path) (subst (All IsOpening) e opens)
-opens_last (x ∷ xs) z [] a reader path h opens none =
-    let e : xs ++ settling_step ∷ z ≡ a = cc in
+opens_last (x ∷ xs) z [] a reader path h opens none = let e : xs ++ settling_step ∷ z ≡ a = cc in
     let some = ap length (sym (draws_more xs (settling_step ∷ z)) ∙ ap draws_in e ∙ none) in
-    let size = length-append (draws_in xs) (settling_draw ∷ draws_in z) in
-    absurd (omega (arith, some, size))
+    let size = length-append (draws_in xs) (settling_draw ∷ draws_in z) in absurd (omega (arith, some, size))
 opens_last (x ∷ xs) z (y ∷ b) a reader path h opens none = opens_last xs z b a reader path (cc) opens none
 
 pub ends_answered : HistoriesGrow → EverySettledRunOpens → (ws : List ℕ) (told : List Told) → AreWeights ws → IsRunOfWorld 1 ws told → EndsSettled (steps told)
     → ArePublishable (world_after 1 ws (steps told)).catalogue.carousel (trees_of (world_after 1 ws (steps told)).catalogue) → length (draws_in (steps told)) ≤ 16777216
     → EndsAnswered ws told
 ends_answered grow law ws told weigh run ends published few undamaged before after reader path reply cut none =
-    let s = settles_so grow ws (steps told) ends published few in
-    let all : WorldState = world_after 1 ws (steps told) in
+    let s = settles_so grow ws (steps told) ends published few in let all : WorldState = world_after 1 ws (steps told) in
     let here : WorldState = world_after 1 ws (steps before) in
     let Looks : WorldState → WorldState → Type 0 = λ u v. Answers (reply_to u (Open reader path)) (node_at (tree_at (broadcast_of v).trees (length (trees_of v.catalogue))) path) in
     let last : Looks all all = subst (λ v. Looks v v) (sym s.same) (law 1 ws s.before weigh s.published s.room (subst IsUndamaged s.same undamaged) reader path) in
@@ -176,8 +139,7 @@ draw_of fates = record { asked = 1048576; fates = fates }
 
 -- the draws of such events, and that the fates of the last two are those of `settle`
 drawn_at_end : (a b z : List Step) (f g : List Fate) → All IsOpening b → All IsOpening z → draws_in (a ++ Draw 1048576 f ∷ b ++ Draw 1048576 g ∷ z) ≡ (draws_in a ++ draw_of f ∷ []) ++ draw_of g ∷ []
-drawn_at_end a b z f g opens later =
-    draws_more (a ++ Draw 1048576 f ∷ b) (Draw 1048576 g ∷ z)
+drawn_at_end a b z f g opens later = draws_more (a ++ Draw 1048576 f ∷ b) (Draw 1048576 g ∷ z)
     ∙ ap (λ l. l ++ draw_of g ∷ draws_in z) (draws_more a (Draw 1048576 f ∷ b))
     ∙ (λ i. (draws_in a ++ draw_of f ∷ no_open_draws b opens i) ++ draw_of g ∷ no_open_draws z later i)
 
@@ -187,28 +149,22 @@ ends_by a b z events f g cut opens later drew =
     let both : (draws_in a ++ draw_of f ∷ []) ++ draw_of g ∷ [] ≡ (drew.0 ++ settling_draw ∷ []) ++ settling_draw ∷ [] =
     sym (drawn_at_end a b z f g opens later) ∙ ap draws_in (sym cut) ∙ drew.1 ∙ sym (append_assoc drew.0 (settling_draw ∷ []) (settling_draw ∷ [])) in
     let outer = same_from_push (draws_in a ++ draw_of f ∷ []) (drew.0 ++ settling_draw ∷ []) (draw_of g) settling_draw both in
-    let inner = same_from_push (draws_in a) drew.0 (draw_of f) settling_draw outer.0 in
-    let first : f ≡ [] = ap (λ (d : DrawFields). d.fates) inner.1 in
+    let inner = same_from_push (draws_in a) drew.0 (draw_of f) settling_draw outer.0 in let first : f ≡ [] = ap (λ (d : DrawFields). d.fates) inner.1 in
     let second : g ≡ [] = ap (λ (d : DrawFields). d.fates) outer.1 in
     (a, b, z, cut ∙ (λ i. a ++ Draw 1048576 (first i) ∷ b ++ Draw 1048576 (second i) ∷ z) ∙ append_assoc a (settling_step ∷ b) (settling_step ∷ z), opens, later)
 
 -- what is told of two draws that come last
 cut_twice : (a b z : List Told) (x y : Told) (f g : List Fate) → x.0 ≡ Draw 1048576 f → y.0 ≡ Draw 1048576 g → steps ((a ++ x ∷ b) ++ y ∷ z) ≡ steps a ++ Draw 1048576 f ∷ steps b ++ Draw 1048576 g ∷ steps z
-cut_twice a b z x y f g one two =
-    map-append (λ (w : Told). w.0) (a ++ x ∷ b) (y ∷ z)
-    ∙ ap (λ l. l ++ y.0 ∷ steps z) (map-append (λ (w : Told). w.0) a (x ∷ b))
+cut_twice a b z x y f g one two = map-append (λ (w : Told). w.0) (a ++ x ∷ b) (y ∷ z) ∙ ap (λ l. l ++ y.0 ∷ steps z) (map-append (λ (w : Told). w.0) a (x ∷ b))
     ∙ (λ i. (steps a ++ one i ∷ steps b) ++ two i ∷ steps z)
 
 ends_told : (a b z l told : List Told) (x y : Told) (f g : List Fate) → told ≡ l ++ y ∷ z → l ≡ a ++ x ∷ b → x.0 ≡ Draw 1048576 f → y.0 ≡ Draw 1048576 g → Each IsOpenTold b → Each IsOpenTold z
     → EndsDrawn (draws_in (steps told)) → EndsSettled (steps told)
-ends_told a b z l told x y f g late early one two opens later drew =
-    let whole : told ≡ (a ++ x ∷ b) ++ y ∷ z = late ∙ ap (λ m. m ++ y ∷ z) early in
+ends_told a b z l told x y f g late early one two opens later drew = let whole : told ≡ (a ++ x ∷ b) ++ y ∷ z = late ∙ ap (λ m. m ++ y ∷ z) early in
     ends_by (steps a) (steps b) (steps z) (steps told) f g (ap steps whole ∙ cut_twice a b z x y f g one two) (opened_steps b opens) (opened_steps z later) drew
 
 pub ends_settled : (editors : List ℕ) (c : CatalogueState) (told : List Told) → Tells editors c.entries told → IsSettled c → EndsDrawn (draws_in (steps told)) → EndsSettled (steps told)
-ends_settled editors c told h settled drew =
-    let old : CatalogueState = settled.0 in
-    let mid : CatalogueState = with_draw old 1048576 in
+ends_settled editors c told h settled drew = let old : CatalogueState = settled.0 in let mid : CatalogueState = with_draw old 1048576 in
     let first : Entry = entries.Draw 1048576 (current_of old).number (cursor_of old) (count_drawn old 1048576) in
     let second : Entry = entries.Draw 1048576 (current_of mid).number (cursor_of mid) (count_drawn mid 1048576) in
     let all : c.entries ≡ (old.entries ++ first ∷ []) ++ second ∷ [] = ap (λ (d : CatalogueState). d.entries) settled.1 in

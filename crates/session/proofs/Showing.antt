@@ -1,24 +1,8 @@
 -- One shot more.
-use Rattle.std.proofs.Common.{◌≡◌, ◌⊎◌, inl, inr, ℕ, zero, suc, ◌<◌, List, [], ◌∷◌, ◌++◌, map, length, Some, slice_get, Result, Ok, Err, OnOk, refl, ap, sym, ◌∙◌, subst, length-append, arith}
-use Rattle.std.specs.Arc.{arc_value}
-use Rattle.std.proofs.lemmas.List.{take-append-le, take_all}
-use Rattle.path_tree.specs.Paths.{Bytes}
-use Rattle.ts_packet.specs.declared.Fate.{Fate}
-use Rattle.cycle_planner.specs.declared.Item.{Item}
-use Rattle.generation.specs.Layouts.{GenerationState, section_of}
-use Rattle.generation_catalogue.specs.declared.entry.Batch.{Batch}
-use Rattle.session.specs.Seats.{drawing_in}
-use Rattle.path_resolver.specs.declared.shot.Shot.{Shot}
-use Rattle.path_resolver.specs.Shots.{view}
+use Rattle.session.proofs.Words.{◌≡◌, ◌⊎◌, inl, inr, ℕ, zero, suc, ◌<◌, List, [], ◌∷◌, ◌++◌, map, length, Some, slice_get, Result, Ok, Err, OnOk, refl, ap, sym, ◌∙◌, subst, length-append, arith, arc_value, take-append-le, take_all, Bytes, Fate, Item, GenerationState, section_of, Batch, drawing_in, Shot, view, snapshot_after, DownlinkState, DownlinkStands, WorldState, Drawing, sections_of, groups_sent, arrivals, initial_world, stands_after_draw, candidates_after, AreShots, HasShown}
 use Rattle.section_stream.specs.Cuts.{candidates}
 use Rattle.section_stream.specs.Groups.{packets_of_group}
-use Rattle.tuner_core.specs.LookBack.{snapshot_after}
-use Rattle.carousel_world.specs.DownView.{DownlinkState, DownlinkStands}
 use Rattle.carousel_world.specs.Fates.{received_under}
-use Rattle.carousel_world.specs.World.{WorldState, Drawing, sections_of, groups_sent, arrivals, initial_world}
-use Rattle.carousel_world.proofs.CallerLemmas.{stands_after_draw}
-use Rattle.history_merge.specs.Merges.{candidates_after}
-use Rattle.session.specs.Shown.{AreShots, HasShown}
 
 -- what stands in a list with one element more
 got : {A : Type 0} (xs : List A) (x : A) (k : ℕ) (y : A) → slice_get (xs ++ x ∷ []) k ≡ Some y → ((k < length xs) × (slice_get xs k ≡ Some y)) ⊎ ((k ≡ length xs) × (x ≡ y))
@@ -32,14 +16,11 @@ got (z ∷ xs) x (suc k) y e = go (got xs x k y e) where
 
 module _ (drawings : List Drawing) (d : Drawing) (shots : List Shot) (shot : Shot) (are : AreShots drawings shots) where
   all_heard : candidates_after (drawings ++ d ∷ []) (length shots) ≡ candidates 256 (map (λ a. a.1) (arrivals (drawings ++ d ∷ [])))
-  all_heard =
-      let count = are.count in
-      let whole = length-append drawings (d ∷ []) in
+  all_heard = let count = are.count in let whole = length-append drawings (d ∷ []) in
       ap (λ (ds : List Drawing). candidates 256 (map (λ a. a.1) (arrivals ds))) (take_all (length shots) (drawings ++ d ∷ []) (omega (arith, count, whole)))
 
   fewer_heard : (k : ℕ) → k < length shots → candidates_after (drawings ++ d ∷ []) k ≡ candidates_after drawings k
-  fewer_heard k lt =
-      let count = are.count in
+  fewer_heard k lt = let count = are.count in
       ap (λ (ds : List Drawing). candidates 256 (map (λ a. a.1) (arrivals ds))) (take-append-le k drawings (d ∷ []) (omega (arith, lt, count)))
 
   shots_push : view shot ≡ snapshot_after (length shots) (length shots) (candidates 256 (map (λ a. a.1) (arrivals (drawings ++ d ∷ [])))) → AreShots (drawings ++ d ∷ []) (shots ++ shot ∷ [])
@@ -50,8 +31,7 @@ module _ (drawings : List Drawing) (d : Drawing) (shots : List Shot) (shot : Sho
     where
       go : (k : ℕ) (s : Shot) → ((k < length shots) × (slice_get shots k ≡ Some s)) ⊎ ((k ≡ length shots) × (shot ≡ s)) → view s ≡ snapshot_after k k (candidates_after (drawings ++ d ∷ []) k)
       go k s (inl h) = are.each k s h.1 ∙ ap (snapshot_after k k) (sym (fewer_heard k h.0))
-      go k s (inr h) =
-          subst (λ (n : ℕ). view s ≡ snapshot_after n n (candidates_after (drawings ++ d ∷ []) n)) (sym h.0)
+      go k s (inr h) = subst (λ (n : ℕ). view s ≡ snapshot_after n n (candidates_after (drawings ++ d ∷ []) n)) (sym h.0)
           (ap view (sym h.1) ∙ is ∙ ap (snapshot_after (length shots) (length shots)) (sym all_heard))
 
 -- a drawing was carried, and then a shot was shown
@@ -64,8 +44,7 @@ pub one_shot_more : (drawings : List Drawing) (d : Drawing) (old new : DownlinkS
 one_shot_more drawings d old new before after shot n carry look number shown has =
     let w : WorldState = record { catalogue = (initial_world 0 []).catalogue; drawings = drawings } in
     let stands = stands_after_draw w d old new has.carried (carry 256 (groups_sent drawings) (map (λ a. a.1) (arrivals drawings)) has.carried) in
-    let all = map (λ a. a.1) (arrivals (drawings ++ d ∷ [])) in
-    let is : view shot ≡ snapshot_after (length before) (length before) (candidates 256 all) =
+    let all = map (λ a. a.1) (arrivals (drawings ++ d ∷ [])) in let is : view shot ≡ snapshot_after (length before) (length before) (candidates 256 all) =
     look 256 (groups_sent (drawings ++ d ∷ [])) [] all stands ∙ ap (λ (k : ℕ). snapshot_after k k (candidates 256 all)) number in
     record { carried = stands; shown = subst (AreShots (drawings ++ d ∷ [])) (sym shown) (shots_push drawings d before shot has.shown is) }
 

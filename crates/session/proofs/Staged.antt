@@ -1,16 +1,5 @@
 -- Events, and what each actor has to do in them, in parts.
-use Rattle.std.proofs.Common.{◌≡◌, ℕ, suc, ◌+◌, ◌==◌, if◌then◌else◌, List, [], ◌∷◌, ◌++◌, map, length, refl, sym, ap, ◌∙◌, arith, append-nil, append_assoc}
-use Rattle.std.proofs.lemmas.List.{map-append, length-append}
-use Rattle.path_tree.specs.Paths.{PathNames}
-use Rattle.path_tree.specs.declared.tree.Edit.{Edit}
-use Rattle.session_script.specs.declared.script.Stage.{Stage}
-use Rattle.session_script.specs.declared.script.Stage.TheVariants.{Before, During, After}
-use Rattle.carousel_world.specs.Events.{Step, Commit, Draw, Open}
-use Rattle.session.specs.Chains.{DrawFields}
-use Rattle.session.specs.Opened.{Asked}
-use Rattle.session.specs.Lines.{commits_by, draws_in, opens_by, asked_from, least_for}
-use Rattle.session.specs.Inner.Acting.{Setting, done_in, events_in}
-use Rattle.session.specs.Inner.Plans.{above, at_end, before_steps, below, during_steps, end_steps}
+use Rattle.session.proofs.Words.{◌≡◌, ℕ, suc, ◌+◌, ◌==◌, if◌then◌else◌, List, [], ◌∷◌, ◌++◌, map, length, refl, sym, ap, ◌∙◌, arith, append-nil, append_assoc, map-append, length-append, PathNames, Edit, Stage, Before, During, After, Step, Commit, Draw, Open, DrawFields, Asked, commits_by, draws_in, asked_from, least_for, opens_by, Setting, done_in, events_in, above, at_end, before_steps, below, during_steps, end_steps}
 pub use Rattle.session.specs.Inner.Plans.{steps}
 
 pub commits_more : (n : ℕ) (xs ys : List Step) → commits_by n (xs ++ ys) ≡ commits_by n xs ++ commits_by n ys
@@ -54,8 +43,7 @@ pub above_more : (xs ys : List Step) → above (xs ++ ys) ≡ above xs ++ above 
 above_more xs ys = map-append (λ (e : Step). (Before, e)) xs ys
 
 pub steps_done : (setting : Setting) → steps (done_in setting) ≡ before_steps setting.parts ++ during_steps setting.parts
-steps_done setting =
-    steps_more (above (before_steps setting.parts)) (below (during_steps setting.parts))
+steps_done setting = steps_more (above (before_steps setting.parts)) (below (during_steps setting.parts))
     ∙ (λ i. unstaged Before (before_steps setting.parts) i ++ unstaged During (during_steps setting.parts) i)
 
 pub steps_all : (setting : Setting) → steps (events_in setting) ≡ steps (done_in setting) ++ end_steps setting.parts

@@ -1,23 +1,11 @@
 -- The lists of actors, one put in or taken out more.
-use Rattle.std.proofs.Common.{◌≡◌, ◌≢◌, ℕ, ◌+◌, ◌<◌, ◌≤◌, ◌==◌, List, [], ◌∷◌, ◌++◌, length, Some, sym, ap, ◌∙◌, arith, BTreeMap, eq-eqb, ne_eqb, Bool}
-use Rattle.std.specs.Prelude.{slice_index_or, if◌then◌else◌}
-use Rattle.std.proofs.lemmas.Grind.{common_steps}
-use Rattle.std.specs.Ordering.{nat_cmp}
+use Rattle.session.proofs.Words.{◌≡◌, ◌≢◌, ℕ, ◌+◌, ◌<◌, ◌≤◌, ◌==◌, List, [], ◌∷◌, ◌++◌, length, Some, sym, ap, ◌∙◌, arith, BTreeMap, eq-eqb, ne_eqb, Bool, slice_index_or, if◌then◌else◌, common_steps, nat_cmp, Vec, Global, dite, ℕ_discrete, items_in, AreApart}
 use Rattle.std.specs.BTreeMap.{get, Updates}
-use Rattle.std.specs.declared.vec.Vec.{Vec}
-use Rattle.std.specs.declared.alloc.Global.{Global}
-use mathlib.Core.Logic.{dite}
-use native.Mathlib.Decide.{ℕ_discrete}
-use Rattle.session.specs.Inner.ByActor.{items_in}
-use Rattle.session.specs.Inner.Acting.{AreApart}
 
 pub pushed : {T : Type 0} (old : ℕ → List T) (actor : ℕ) (one : T) (mid new : BTreeMap ℕ (Vec T Global)) (took more : Vec T Global) → took.items ≡ old actor
     → ((n : ℕ) → items_in (get nat_cmp mid n) ≡ (if n == actor then [] else old n)) → more.items ≡ took.items ++ one ∷ [] → Updates nat_cmp mid new actor (Some more)
     → (n : ℕ) → items_in (get nat_cmp new n) ≡ (if n == actor then old n ++ one ∷ [] else old n)
-pushed old actor one mid new took more was held is updates n =
-    let at = updates.0 n in
-    let mine = held n in
-    grind (arith, common_steps, at, mine, was, is)
+pushed old actor one mid new took more was held is updates n = let at = updates.0 n in let mine = held n in grind (arith, common_steps, at, mine, was, is)
 
 pub either_side : (a b : ℕ) → (a == b) ≡ (b == a)
 either_side a b = dite (ℕ_discrete a b) (λ e. eq-eqb a b e ∙ sym (eq-eqb b a (sym e))) (λ ne. ne_eqb a b ne ∙ sym (ne_eqb b a (λ e. ne (sym e))))
@@ -30,6 +18,5 @@ AreLeft numbers taken old new = (k : ℕ) → taken ≤ k → k < length numbers
 pub left_on : {T : Type 0} (numbers : List ℕ) (taken : ℕ) (old mid new : ℕ → List T) (n : ℕ) → AreApart numbers → taken < length numbers → n ≡ slice_index_or numbers taken 0
     → AreLeft numbers taken old mid → ((m : ℕ) → new m ≡ (if m == n then [] else mid m)) → AreLeft numbers (taken + 1) old new
 left_on numbers taken old mid new n apart lt is left took = λ k le below.
-    let m = slice_index_or numbers k 0 in
-    let other : m ≢ n = λ e. let same : k ≡ taken = apart k taken below lt (e ∙ is) in omega (arith, same, le) in
+    let m = slice_index_or numbers k 0 in let other : m ≢ n = λ e. let same : k ≡ taken = apart k taken below lt (e ∙ is) in omega (arith, same, le) in
     took m ∙ ap (λ (t : Bool). if t then [] else mid m) (ne_eqb m n other) ∙ left k (omega (arith, le)) below

@@ -1,18 +1,6 @@
 -- A history of events that tells entries, with opens between them.
-use Rattle.std.proofs.Common.{◌≡◌, ◌≢◌, ℕ, suc, ◌<◌, Bool, true, false, cond, List, [], ◌∷◌, ◌++◌, length, filter, drop, get_or, sum_by, ◌⊎◌, inl, inr, sym, ap, ◌∙◌, refl, subst, arith, ne_eqb}
-use Rattle.std.proofs.lemmas.List.Sums.{sum_by-cons}
-use Rattle.ts_packet.specs.declared.Fate.{Fate}
-use Rattle.generation_catalogue.specs.declared.entry.Entry.{Entry}
+use Rattle.session.proofs.Words.{◌≡◌, ◌≢◌, ℕ, suc, ◌<◌, Bool, true, false, cond, List, [], ◌∷◌, ◌++◌, length, filter, drop, get_or, sum_by, ◌⊎◌, inl, inr, sym, ap, ◌∙◌, refl, subst, arith, ne_eqb, sum_by-cons, Fate, Entry, Step, Reply, ReaderView, OpenEntry, Each, event_of, opened_of, opens_at, merge_entries, merge_of, IsPlaced, AreNumbers, is_commit_at, is_commit_of, entries_to_next, up_to_next, filter_skips, each_opened, commit_told}
 use Rattle.generation_catalogue.specs.declared.entry.Entry.TheVariants as entries
-use Rattle.carousel_world.specs.Events.{Step}
-use Rattle.carousel_world.specs.declared.event.Reply.{Reply}
-use Rattle.open_history.specs.Opens.{ReaderView}
-use Rattle.open_history.specs.declared.entry.OpenEntry.{OpenEntry}
-use Rattle.history_merge.specs.Merging.{Each, event_of, opened_of, opens_at, merge_entries, merge_of}
-use Rattle.history_merge.specs.Merged.{IsPlaced, AreNumbers, is_commit_at, is_commit_of}
-use Rattle.session.specs.Gathering.{entries_to_next}
-use Rattle.session.specs.Sessions.{up_to_next}
-use Rattle.history_merge.proofs.CallerLemmas.{filter_skips, each_opened, commit_told}
 use Rattle.session.proofs.Lists.{first_fails}
 
 abbrev pub Told : Type 0
@@ -52,19 +40,11 @@ module _ (editors : List ℕ) where
   pub tells_cut : (xs ys : List Entry) (e : Entry) (told : List Told) → Tells (xs ++ e ∷ ys) told → IsCutAt xs e ys told
   tells_cut [] ys e [] h = absurd (cc)
   tells_cut (z ∷ xs) ys e [] h = absurd (cc)
-  tells_cut xs ys e (x ∷ told) (inl h) =
-      let r = tells_cut xs ys e told h.1 in
-      (x ∷ r.0, r.1, r.2, ap (λ l. x ∷ l) r.3, inl (h.0, r.4), r.5, r.6)
-  tells_cut [] ys e (x ∷ told) (inr h) =
-      let same : e ∷ ys ≡ h.0 ∷ h.1 = h.2 in
-      let first : h.0 ≡ e = cc in
-      let rest : h.1 ≡ ys = cc in
+  tells_cut xs ys e (x ∷ told) (inl h) = let r = tells_cut xs ys e told h.1 in (x ∷ r.0, r.1, r.2, ap (λ l. x ∷ l) r.3, inl (h.0, r.4), r.5, r.6)
+  tells_cut [] ys e (x ∷ told) (inr h) = let same : e ∷ ys ≡ h.0 ∷ h.1 = h.2 in let first : h.0 ≡ e = cc in let rest : h.1 ≡ ys = cc in
       ([], x, told, refl, refl, subst (λ z. IsToldBy z x) first h.3, subst (λ l. Tells l told) rest h.4)
-  tells_cut (z ∷ xs) ys e (x ∷ told) (inr h) =
-      let same : z ∷ (xs ++ e ∷ ys) ≡ h.0 ∷ h.1 = h.2 in
-      let first : h.0 ≡ z = cc in
-      let rest : h.1 ≡ xs ++ e ∷ ys = cc in
-      let r = tells_cut xs ys e told (subst (λ l. Tells l told) rest h.4) in
+  tells_cut (z ∷ xs) ys e (x ∷ told) (inr h) = let same : z ∷ (xs ++ e ∷ ys) ≡ h.0 ∷ h.1 = h.2 in let first : h.0 ≡ z = cc in
+      let rest : h.1 ≡ xs ++ e ∷ ys = cc in let r = tells_cut xs ys e told (subst (λ l. Tells l told) rest h.4) in
       (x ∷ r.0, r.1, r.2, ap (λ l. x ∷ l) r.3, inr (z, xs, refl, subst (λ w. IsToldBy w x) first h.3, r.4), r.5, r.6)
 
   -- ---- a merge tells the entries
@@ -76,14 +56,13 @@ module _ (editors : List ℕ) where
   tells_entries readers k fates [] h = refl
   tells_entries readers k fates (entries.Commit editor edits outcome ∷ es) h =
       inr (entries.Commit editor edits outcome, es, refl, ([], refl, h.0), tells_entries readers k fates es h.1)
-  tells_entries readers k fates (entries.Draw asked generation first count ∷ es) h =
-      inr (
-        entries.Draw asked generation first count,
-        es,
-        refl,
-        (get_or fates 0 [], refl, h.0),
-        behind_opens es (opens_at readers (suc k)) (merge_entries editors readers (suc k) (drop 1 fates) es) (all_told readers (suc k)) (tells_entries readers (suc k) (drop 1 fates) es h.1),
-      )
+  tells_entries readers k fates (entries.Draw asked generation first count ∷ es) h = inr (
+    entries.Draw asked generation first count,
+    es,
+    refl,
+    (get_or fates 0 [], refl, h.0),
+    behind_opens es (opens_at readers (suc k)) (merge_entries editors readers (suc k) (drop 1 fates) es) (all_told readers (suc k)) (tells_entries readers (suc k) (drop 1 fates) es h.1),
+  )
 
   pub merge_tells : (readers : List ReaderView) (fates : List (List Fate)) (es : List Entry) → Each (IsPlaced (length editors)) es → Tells es (merge_of editors readers fates es)
   merge_tells readers fates es h = behind_opens es (opens_at readers 0) (merge_entries editors readers 0 fates es) (all_told readers 0) (tells_entries readers 0 fates es h)
@@ -93,19 +72,10 @@ module _ (editors : List ℕ) where
   pub sum_told : (F : Told → ℕ) (G : Entry → ℕ) → ((reader : ℕ) (o : OpenEntry) → F (opened_of reader o) ≡ 0) → ((e : Entry) (fates : List Fate) → F (event_of editors e fates) ≡ G e)
       → (es : List Entry) (told : List Told) → Tells es told → sum_by F told ≡ sum_by G es
   sum_told F G none same es [] h = ap (sum_by G) (sym h)
-  sum_told F G none same es (x ∷ told) (inl h) =
-      let o = h.0 in
-      let zero_here : F x ≡ 0 = ap F o.2 ∙ none o.0 o.1 in
-      let rest = sum_told F G none same es told h.1 in
-      let parts = sum_by-cons F x told in
-      omega (arith, parts, zero_here, rest)
-  sum_told F G none same es (x ∷ told) (inr h) =
-      let here : F x ≡ G h.0 = ap F (h.3).1 ∙ same h.0 (h.3).0 in
-      let rest = sum_told F G none same h.1 told h.4 in
-      let parts = sum_by-cons F x told in
-      let others = sum_by-cons G h.0 h.1 in
-      let all = ap (sum_by G) h.2 in
-      omega (arith, parts, here, rest, others, all)
+  sum_told F G none same es (x ∷ told) (inl h) = let o = h.0 in let zero_here : F x ≡ 0 = ap F o.2 ∙ none o.0 o.1 in
+      let rest = sum_told F G none same es told h.1 in let parts = sum_by-cons F x told in omega (arith, parts, zero_here, rest)
+  sum_told F G none same es (x ∷ told) (inr h) = let here : F x ≡ G h.0 = ap F (h.3).1 ∙ same h.0 (h.3).0 in let rest = sum_told F G none same h.1 told h.4 in
+      let parts = sum_by-cons F x told in let others = sum_by-cons G h.0 h.1 in let all = ap (sum_by G) h.2 in omega (arith, parts, here, rest, others, all)
 
 -- ---- an editor's commits
 
@@ -122,8 +92,7 @@ module _ (editors : List ℕ) (n : AreNumbers editors) (place : ℕ) (within : p
   pub none_told : (es : List Entry) (told : List Told) → Tells editors es told → filter (is_commit_at place) es ≡ [] → filter (λ x. is_commit_of (get_or editors place 0) x.0) told ≡ []
   none_told es [] h none = refl
   none_told es (x ∷ told) (inl h) none = filter_skips is_its x told (open_not x h.0) ∙ none_told es told h.1 none
-  none_told es (x ∷ told) (inr h) none =
-      let f = first_fails (is_commit_at place) h.0 h.1 (ap (filter (is_commit_at place)) (sym h.2) ∙ none) in
+  none_told es (x ∷ told) (inr h) none = let f = first_fails (is_commit_at place) h.0 h.1 (ap (filter (is_commit_at place)) (sym h.2) ∙ none) in
       filter_skips is_its x told (told_same h.0 x h.3 ∙ f.0) ∙ none_told h.1 told h.4 f.1
 
   cut_both : (e : Entry) (later : List Entry) (x : Told) (told : List Told) → IsToldBy editors e x → Tells editors later told → (b : Bool)
@@ -136,8 +105,7 @@ module _ (editors : List ℕ) (n : AreNumbers editors) (place : ℕ) (within : p
   tells_to_next es (x ∷ told) (inl h) =
       subst (λ (b : Bool). Tells editors (entries_to_next place es) (cond b [] (x ∷ up_to_next (get_or editors place 0) told))) (sym (open_not x h.0))
       (inl (h.0, tells_to_next es told h.1))
-  tells_to_next es (x ∷ told) (inr h) =
-      subst (λ l. Tells editors (entries_to_next place l) (up_to_next (get_or editors place 0) (x ∷ told))) (sym h.2)
+  tells_to_next es (x ∷ told) (inr h) = subst (λ l. Tells editors (entries_to_next place l) (up_to_next (get_or editors place 0) (x ∷ told))) (sym h.2)
       (subst (λ (b : Bool). Tells editors (entries_to_next place (h.0 ∷ h.1)) (cond b [] (x ∷ up_to_next (get_or editors place 0) told))) (sym (told_same h.0 x h.3))
       (cut_both h.0 (entries_to_next place h.1) x (up_to_next (get_or editors place 0) told) h.3 (tells_to_next h.1 told h.4) (is_commit_at place h.0)))
 

@@ -49,8 +49,7 @@ pub record DrawFields : Type 0 where
 -- the drawings
 abbrev pub Draws : (id : ℕ) (weights : List ℕ) → Seen → List DrawFields → List Drawing → Seen → Type 0
 Draws id weights s [] [] t = t ≡ s
-Draws id weights s [] (d ∷ ds) t = ⊥
-Draws id weights s (l ∷ lines) [] t = ⊥
 Draws id weights s (l ∷ lines) (d ∷ ds) t =
     (c : CatalogueState) × (GoesOnWith id weights s c) × (draws_of c < MOST_DRAWS) × (d ≡ drawing_of c l.asked l.fates)
     × (Draws id weights (seen_after s c (with_draw c l.asked)) lines ds t)
+Draws id weights s _ _ t = ⊥

@@ -1,6 +1,5 @@
 -- From what each actor did to the entries of the station's catalogue.
-use Rattle.std.specs.Prelude.{◌≡◌, ◌⊎◌, ℕ, suc, ◌+◌, ◌<◌, ◌≤◌, Bool, true, false, List, [], ◌∷◌, ◌++◌, map, length, slice_get, Some, Result, Ok, Err, if◌then◌else◌}
-use Rattle.std.specs.List.{filter, count_by, sum_by}
+use Rattle.std.specs.Prelude.{◌≡◌, ◌⊎◌, ℕ, suc, ◌+◌, ◌<◌, ◌≤◌, Bool, true, false, List, [], ◌∷◌, ◌++◌, map, length, slice_get, Some, Result, Ok, if◌then◌else◌, filter, count_by, sum_by}
 use Rattle.path_tree.specs.declared.tree.Edit.{Edit}
 use Rattle.history_lock.specs.History.{Begins, total, times, once_within}
 use Rattle.history_lock.specs.History as histories
@@ -19,8 +18,7 @@ use Rattle.generation_catalogue.specs.declared.journal.TheConstants.{MOST_DRAWS,
 
 abbrev pub is_made : Entry → Bool
 is_made (entries.Commit editor edits (Ok number)) = true
-is_made (entries.Commit editor edits (Err refusal)) = false
-is_made (entries.Draw asked generation first count) = false
+is_made _ = false
 
 -- after these entries there is no room for a commit of these edits
 abbrev pub IsFullAfter : List Entry → List Edit → Type 0
@@ -56,9 +54,8 @@ pub record IsGathered (editors : List (List (List Edit))) (draws : List DrawFiel
 -- the actors at these places and further ones made these commits, and have seen this much
 abbrev pub AllCommitted : (id : ℕ) (weights : List ℕ) (place : ℕ) → List (List (List Edit)) → List Seen → Type 0
 AllCommitted id weights place [] [] = Unit {0}
-AllCommitted id weights place [] (s ∷ ss) = ⊥
-AllCommitted id weights place (lines ∷ more) [] = ⊥
 AllCommitted id weights place (lines ∷ more) (s ∷ ss) = Commits id weights place nothing_seen lines s × AllCommitted id weights (suc place) more ss
+AllCommitted id weights place _ _ = ⊥
 
 -- What all passes have seen begins the history, and each entry is one pass's own. Then the history is gathered of what the actors did.
 abbrev pub ActorsGather : Type 0

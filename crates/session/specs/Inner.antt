@@ -1,8 +1,6 @@
 -- What private functions and invariants are stated in; no public contract names it.
 pub mod Acting
-pub mod ByActor
 pub mod Casting
 pub mod Ending
 pub mod Plans
-pub mod Playing
-pub mod Threads
+pub mod Seats

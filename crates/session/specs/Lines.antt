@@ -1,7 +1,6 @@
 -- From a script to what each actor of its session is asked for. The language of scripts is this project's own.
-use Rattle.std.specs.Prelude.{ℕ, suc, ◌==◌, Bool, true, false, List, [], ◌∷◌, ◌++◌, map, length, if◌then◌else◌}
-use Rattle.std.specs.List.{list_any, count_by}
-use Rattle.path_tree.specs.Paths.{PathNames}
+use Rattle.std.specs.Prelude.{ℕ, suc, ◌==◌, Bool, true, false, List, [], ◌∷◌, ◌++◌, map, length, if◌then◌else◌, count_by}
+use Rattle.std.specs.List.{list_any}
 use Rattle.path_tree.specs.declared.tree.Edit.{Edit}
 use Rattle.session_script.specs.declared.script.Stage.{Stage}
 use Rattle.session_script.specs.declared.script.Stage.TheVariants.{Before, During, After}
@@ -39,24 +38,15 @@ draws_in (Commit editor edits ∷ es) = draws_in es
 draws_in (Draw asked fates ∷ es) = record { asked = asked; fates = fates } ∷ draws_in es
 draws_in (Open reader path ∷ es) = draws_in es
 
--- the paths that this reader opens, in order
-abbrev pub opens_by : ℕ → List Step → List PathNames
-opens_by reader [] = []
-opens_by reader (Commit editor edits ∷ es) = opens_by reader es
-opens_by reader (Draw asked fates ∷ es) = opens_by reader es
-opens_by reader (Open r path ∷ es) = (if r == reader then path ∷ [] else []) ++ opens_by reader es
-
 -- ---- what is asked of a reader
 
 abbrev pub is_before : Stage → Bool
 is_before Before = true
-is_before During = false
-is_before After = false
+is_before _ = false
 
 abbrev pub is_draw_before : Stage × Step → Bool
 is_draw_before (stage, Draw asked fates) = is_before stage
-is_draw_before (stage, Commit editor edits) = false
-is_draw_before (stage, Open reader path) = false
+is_draw_before _ = false
 
 -- How many draws an open has to have heard: before `start` those above it, after `start` those before `start`, and at the end all
 abbrev pub least_for : (above before all : ℕ) → Stage → ℕ

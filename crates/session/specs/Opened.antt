@@ -12,9 +12,8 @@ pub record Asked : Type 0 where
 -- each path was opened, in order, on a shot of no lower number than its least
 abbrev pub AreOpened : List Asked → List OpenEntry → Type 0
 AreOpened [] [] = Unit {0}
-AreOpened [] (e ∷ es) = ⊥
-AreOpened (a ∷ asked) [] = ⊥
 AreOpened (a ∷ asked) (e ∷ es) = (e.path ≡ a.path) × (a.least ≤ e.shot) × AreOpened asked es
+AreOpened _ _ = ⊥
 
 -- How many shots were known never falls along the opens: it was `first` before them and is `last` after them, and each is on the last one known
 abbrev pub Rises : ℕ → List OpenEntry → ℕ → Type 0

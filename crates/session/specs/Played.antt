@@ -23,10 +23,9 @@ use Rattle.cycle_planner.specs.declared.TheConstants.{MOST_DRAWN}
 -- the readers of these numbers opened all that they were asked for, and know all that was shown
 abbrev pub AllRead : Fields → List Shot → List ℕ → List ReaderView → Type 0
 AllRead script shots [] [] = Unit {0}
-AllRead script shots [] (v ∷ vs) = ⊥
-AllRead script shots (r ∷ rs) [] = ⊥
 AllRead script shots (r ∷ rs) (v ∷ vs) =
     (v.reader ≡ r) × HasOpened (asked_of r script) v × (v.known ≡ shots) × AllAnswered v.known v.opens × AllRead script shots rs vs
+AllRead script shots _ _ = ⊥
 
 -- the last two entries are the draws of `settle`
 abbrev pub IsSettled : CatalogueState → Type 0

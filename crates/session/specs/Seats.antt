@@ -1,5 +1,5 @@
 -- What actors did, by their seats.
-use Rattle.std.specs.Prelude.{◌≡◌, ℕ, true, List, ◌++◌, map, length, ◌≤◌, ◌+◌}
+use Rattle.std.specs.Prelude.{◌≡◌, ℕ, true, List, ◌++◌, map, length, ◌≤◌, ◌+◌, ◌<◌, slice_index_or}
 use mathlib.Core.List.{IsPrefix}
 use Rattle.std.specs.declared.vec.Vec.{Vec}
 use Rattle.std.specs.declared.alloc.Global.{Global}
@@ -12,10 +12,6 @@ use Rattle.station.specs.declared.kept.Kept.{Kept}
 use Rattle.station.specs.declared.kept.KeptItem.{KeptItem}
 use Rattle.station.specs.declared.station.Station.{Station}
 use Rattle.station.specs.Passes.{IsStationPass, carousel_of, weights_of}
-use Rattle.std.specs.Arc.{arc_value}
-use Rattle.ts_packet.specs.declared.Fate.{Fate}
-use Rattle.generation_catalogue.specs.History.{CatalogueState, outcome_of, is_entered}
-use Rattle.generation_catalogue.specs.declared.entry.Batch.{Batch}
 use Rattle.carousel_world.specs.World.{Drawing}
 use Rattle.open_history.specs.Opens.{IsSameReader}
 use Rattle.session.specs.declared.editor.CommitLine.{CommitLine}
@@ -23,19 +19,20 @@ use Rattle.session.specs.declared.editor.EditorSeat.{EditorSeat}
 use Rattle.session.specs.declared.feeder.DrawLine.{DrawLine}
 use Rattle.session.specs.declared.feeder.FeederSeat.{FeederSeat}
 use Rattle.session.specs.declared.reader.ReaderSeat.{ReaderSeat}
-use Rattle.session.specs.Chains.{Commits, Draws, DrawFields, GoesOnWith, nothing_seen, seen_in}
+use Rattle.session.specs.Chains.{Commits, Draws, DrawFields, nothing_seen, seen_in}
 use Rattle.session.specs.Shown.{HasShown}
 use Rattle.session.specs.Opened.{Asked, HasOpened}
 use Rattle.cycle_planner.specs.declared.TheConstants.{MOST_DRAWN}
+
+-- so it is of each actor, by his seat before and after
+abbrev pub EachDid : {A : Type 0} → (A → A → Type 0) → List A → List A → Type 0
+EachDid Did old new =
+    (i : ℕ) (d : _) → i < length old → Did (slice_index_or old i d) (slice_index_or new i d)
 
 -- ---- editors
 
 abbrev pub edits_of : CommitLine → List Edit
 edits_of line = line.edits.items
-
--- a commit of these edits would be entered, on a history that goes on with what the pass has seen
-abbrev pub WouldBeEntered : {X : _} {F : _} {g : _} → Station X F g → Pass Kept KeptItem → List Edit → Type 0
-WouldBeEntered s p edits = (c : CatalogueState) × (GoesOnWith (carousel_of s) (weights_of s) (seen_in p) c) × (is_entered (outcome_of c edits) ≡ true)
 
 -- the editor of this place made these commits, in order, and no others
 pub record HasCommitted {X : _} {F : _} {g : _} (s : Station X F g) (place : ℕ) (lines : List (List Edit)) (p : Pass Kept KeptItem) : Type 0 where
@@ -98,7 +95,3 @@ IsDrawLine line = (1 ≤ line.asked) × (line.asked ≤ MOST_DRAWN)
 -- there is room for all opens
 abbrev pub IsReaderSeat : ReaderSeat → Type 0
 IsReaderSeat seat = length seat.pass.opens + length seat.paths.items ≤ seat.pass.room
-
--- a batch that was drawn, with what becomes of its packets
-abbrev pub drawing_in : Batch → List Fate → Drawing
-drawing_in b fates = record { generation = arc_value b.generation; items = b.items.items; fates = fates }

@@ -1,6 +1,5 @@
 -- What a session is: a history of its script's commits, draws and opens. The order in which a script's actors run is this project's own.
-use Rattle.std.specs.Prelude.{◌≡◌, ◌⊎◌, ℕ, ◌+◌, ◌<◌, ◌≤◌, Bool, true, false, List, [], ◌∷◌, ◌++◌, map, length, Some, slice_get, if◌then◌else◌}
-use Rattle.std.specs.List.{All, filter, count_by, sum_by}
+use Rattle.std.specs.Prelude.{◌≡◌, ◌⊎◌, ℕ, ◌+◌, ◌<◌, ◌≤◌, Bool, true, false, List, [], ◌∷◌, ◌++◌, map, length, Some, slice_get, if◌then◌else◌, All, filter, count_by, sum_by}
 use Rattle.path_tree.specs.Paths.{PathNames}
 use Rattle.path_tree.specs.Trees.{node_at}
 use Rattle.path_tree.specs.declared.tree.Edit.{Edit}
@@ -31,10 +30,7 @@ use Rattle.generation_catalogue.specs.declared.journal.TheConstants.{MOST_PUT_BY
 
 abbrev pub is_accepted : Reply → Bool
 is_accepted (replies.Committed number) = true
-is_accepted (replies.Refused refusal) = false
-is_accepted (replies.Drawn generation first count) = false
-is_accepted (replies.DrawsFull draws) = false
-is_accepted (replies.Opened label answer) = false
+is_accepted _ = false
 
 abbrev pub put_by_step : Step → ℕ
 put_by_step (Commit editor edits) = put_bytes edits
@@ -71,9 +67,8 @@ AreCommitted editor before (edits ∷ lines) told =
 -- each path that a reader is asked for is opened, in order, after at least so many draws
 abbrev pub AreKnown : ℕ → List Asked → List (ℕ × (Step × Reply)) → Type 0
 AreKnown reader [] [] = Unit {0}
-AreKnown reader [] (x ∷ xs) = ⊥
-AreKnown reader (a ∷ asked) [] = ⊥
 AreKnown reader (a ∷ asked) (x ∷ xs) = (x.1.0 ≡ Open reader a.path) × (a.least ≤ x.0) × AreKnown reader asked xs
+AreKnown reader _ _ = ⊥
 
 -- The opens stand right after the last draw that they answer by, or before all else: none right after a commit, and those after one draw
 -- in the order of their readers' numbers. Only a reader of `least` or above may open at the front; 65 is above all readers.

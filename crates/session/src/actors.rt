@@ -1,9 +1,8 @@
 //! The actors at once.
-ghost use Rattle.std.specs.Prelude.{ℕ, ◌<◌, ◌≤◌, ◌+◌, length, slice_index_or};
-ghost use Rattle.std.specs.List.{All};
-ghost use Rattle.shot_board.specs.Showers.{shown_by, most_by, IsSameBoard};
+ghost use Rattle.std.specs.Prelude.{◌+◌, length, All};
+ghost use Rattle.shot_board.specs.Showers.{shown_by, IsSameBoard, HasRoomFor};
 ghost use Rattle.station.specs.Passes.{IsStationPass};
-ghost use Rattle.session.specs.Seats.{DidEdit, DidFeed, DidRead, IsDrawLine, IsEditorSeat, IsReaderSeat};
+ghost use Rattle.session.specs.Seats.{DidEdit, DidFeed, DidRead, IsDrawLine, IsEditorSeat, IsReaderSeat, EachDid};
 
 use crate::editor::{EditorSeat, edit};
 use crate::feeder::{FeederSeat, feed};
@@ -34,18 +33,13 @@ pub fn run_actors<R: Threads + Wait + Sync, G: Gate>(
     requires editors { All (IsEditorSeat station.now) editors.old }
     requires pass { IsStationPass station.now feeder.old.pass }
     requires lines { All IsDrawLine feeder.old.draws.items }
-    requires room { length (shown_by shower.old) + length feeder.old.draws.items
-        ≤ most_by shower.old + 1 }
+    requires room { HasRoomFor shower.old (length feeder.old.draws.items) }
     requires readers { All IsReaderSeat readers.old }
-    ensures editors { (i : ℕ) (d : _)
-        → i < length editors.old
-        → DidEdit station.now (slice_index_or editors.old i d) (slice_index_or editors.new i d) }
+    ensures editors { EachDid (DidEdit station.now) editors.old editors.new }
     ensures feeder { DidFeed station.now feeder.old feeder.new (shown_by shower.old)
         (shown_by shower.new) }
     ensures board { IsSameBoard shower.old shower.new }
-    ensures readers { (i : ℕ) (d : _)
-        → i < length readers.old
-        → DidRead (slice_index_or readers.old i d) (slice_index_or readers.new i d) }
+    ensures readers { EachDid DidRead readers.old readers.new }
 {
     beside_editors(
         rt,
@@ -56,16 +50,12 @@ pub fn run_actors<R: Threads + Wait + Sync, G: Gate>(
         &mut ||
             requires pass { IsStationPass station.now feeder.now.pass }
             requires lines { All IsDrawLine feeder.now.draws.items }
-            requires room { length (shown_by shower.now) + length feeder.now.draws.items
-                ≤ most_by shower.now + 1 }
+            requires room { HasRoomFor shower.now (length feeder.now.draws.items) }
             requires readers { All IsReaderSeat readers.now }
             ensures feeder { DidFeed station.entry.now feeder.entry.now feeder.exit.now
                 (shown_by shower.entry.now) (shown_by shower.exit.now) }
             ensures board { IsSameBoard shower.entry.now shower.exit.now }
-            ensures readers { (i : ℕ) (d : _)
-                → i < length readers.entry.now
-                → DidRead (slice_index_or readers.entry.now i d)
-                (slice_index_or readers.exit.now i d) }
+            ensures readers { EachDid DidRead readers.entry.now readers.exit.now }
         { feed_and_read(rt, alloc, station, gate, shower, feeder, readers) },
     );
 }
@@ -82,19 +72,14 @@ fn beside_editors<R: Threads + Wait + Sync, G: Gate, F: FnMut()>(
 )
     requires editors { All (IsEditorSeat station.now) editors.old }
     requires other { F.pre other.old }
-    ensures editors { (i : ℕ) (d : _)
-        → i < length editors.old
-        → DidEdit station.now (slice_index_or editors.old i d) (slice_index_or editors.new i d) }
+    ensures editors { EachDid (DidEdit station.now) editors.old editors.new }
     ensures other { F.step other.old tt other.new }
 {
     join_mut(
         rt,
         &mut ||
             requires { All (IsEditorSeat station.now) editors.now }
-            ensures { (i : ℕ) (d : _)
-                → i < length editors.entry.now
-                → DidEdit station.entry.now (slice_index_or editors.entry.now i d)
-                (slice_index_or editors.exit.now i d) }
+            ensures { EachDid (DidEdit station.entry.now) editors.entry.now editors.exit.now }
         { edit_all(rt, alloc, station, gate, editors) },
         other,
     );
@@ -112,30 +97,23 @@ fn feed_and_read<R: Threads + Wait + Sync, G: Gate>(
 )
     requires pass { IsStationPass station.now feeder.old.pass }
     requires lines { All IsDrawLine feeder.old.draws.items }
-    requires room { length (shown_by shower.old) + length feeder.old.draws.items
-        ≤ most_by shower.old + 1 }
+    requires room { HasRoomFor shower.old (length feeder.old.draws.items) }
     requires readers { All IsReaderSeat readers.old }
     ensures feeder { DidFeed station.now feeder.old feeder.new (shown_by shower.old)
         (shown_by shower.new) }
     ensures board { IsSameBoard shower.old shower.new }
-    ensures readers { (i : ℕ) (d : _)
-        → i < length readers.old
-        → DidRead (slice_index_or readers.old i d) (slice_index_or readers.new i d) }
+    ensures readers { EachDid DidRead readers.old readers.new }
 {
     join_mut(
         rt,
         &mut ||
             requires { All IsReaderSeat readers.now }
-            ensures { (i : ℕ) (d : _)
-                → i < length readers.entry.now
-                → DidRead (slice_index_or readers.entry.now i d)
-                (slice_index_or readers.exit.now i d) }
+            ensures { EachDid DidRead readers.entry.now readers.exit.now }
         { read_all(rt, alloc, gate, readers) },
         &mut ||
             requires pass { IsStationPass station.now feeder.now.pass }
             requires lines { All IsDrawLine feeder.now.draws.items }
-            requires room { length (shown_by shower.now) + length feeder.now.draws.items
-                ≤ most_by shower.now + 1 }
+            requires room { HasRoomFor shower.now (length feeder.now.draws.items) }
             ensures feeder { DidFeed station.entry.now feeder.entry.now feeder.exit.now
                 (shown_by shower.entry.now) (shown_by shower.exit.now) }
             ensures board { IsSameBoard shower.entry.now shower.exit.now }
@@ -152,9 +130,7 @@ fn edit_all<R: Threads + Wait + Sync, G: Gate>(
     editors: &mut [EditorSeat],
 )
     requires { All (IsEditorSeat station.now) editors.old }
-    ensures { (i : ℕ) (d : _)
-        → i < length editors.old
-        → DidEdit station.now (slice_index_or editors.old i d) (slice_index_or editors.new i d) }
+    ensures { EachDid (DidEdit station.now) editors.old editors.new }
 {
     let threads = editors.len();
     if threads == 0 {
@@ -174,9 +150,7 @@ fn edit_all<R: Threads + Wait + Sync, G: Gate>(
 /// One thread for each reader.
 fn read_all<R: Threads + Sync, G: Gate>(rt: &R, alloc: Global, gate: &G, readers: &mut [ReaderSeat])
     requires { All IsReaderSeat readers.old }
-    ensures { (i : ℕ) (d : _)
-        → i < length readers.old
-        → DidRead (slice_index_or readers.old i d) (slice_index_or readers.new i d) }
+    ensures { EachDid DidRead readers.old readers.new }
 {
     let threads = readers.len();
     if threads == 0 {

@@ -1,6 +1,6 @@
 //! A list for each actor.
 ghost use Rattle.std.specs.Prelude.{◌≡◌, ◌++◌, ◌∷◌, ◌==◌, [], ℕ, OnOk, if◌then◌else◌};
-ghost use Rattle.session.specs.Inner.ByActor.{lists_of};
+ghost use Rattle.session.specs.Inner.Plans.{lists_of};
 
 use oc_bytes::NoMemory;
 use std::alloc::Global;

@@ -2,7 +2,8 @@
 ghost use Rattle.std.specs.Prelude.{◌++◌, ◌∷◌, [], List, ℕ, OnOk, OnErr};
 ghost use Rattle.path_tree.specs.declared.tree.Edit.{Edit as EditFields};
 ghost use Rattle.station.specs.Passes.{IsStationPass};
-ghost use Rattle.session.specs.Seats.{HasCommitted, WouldBeEntered, DidEdit};
+ghost use Rattle.session.specs.Seats.{HasCommitted, DidEdit};
+ghost use Rattle.session.specs.Inner.Seats.{WouldBeEntered};
 
 use generation_catalogue::CommitFault;
 use oc_bytes::NoMemory;

@@ -1,11 +1,10 @@
 //! The seats of the editors.
-ghost use Rattle.std.specs.Prelude.{◌≡◌, ◌++◌, ◌∷◌, ◌<◌, ◌≤◌, [], List, map, length, OnOk, IfOk, slice_index_or};
-ghost use Rattle.std.specs.List.{All, Contains};
+ghost use Rattle.std.specs.Prelude.{◌≡◌, ◌++◌, ◌∷◌, ◌<◌, ◌≤◌, [], List, map, length, OnOk, IfOk, slice_index_or, All, Contains};
 ghost use Rattle.carousel_world.specs.Events.{Step, Commit};
 ghost use Rattle.station.specs.Passes.{AreNewPasses};
 ghost use Rattle.session_script.specs.declared.values.TheConstants.{MOST_ACTORS};
 ghost use Rattle.session.specs.Seats.{IsEditorSeat, edits_of};
-ghost use Rattle.session.specs.Inner.ByActor.{lists_of};
+ghost use Rattle.session.specs.Inner.Plans.{lists_of};
 ghost use Rattle.session.specs.Inner.Acting.{AreApart, EditorsStand, editor_plan, numbers_of, planned_for};
 
 use crate::by_actor::ByActor;

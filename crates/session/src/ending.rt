@@ -1,6 +1,6 @@
 //! What comes after the actors' threads.
-ghost use Rattle.std.specs.Prelude.{◌≡◌, ◌++◌, ◌∷◌, ◌+◌, ◌<◌, ◌≤◌, [], List, ℕ, map, length, OnOk, IfOk};
-ghost use Rattle.std.specs.List.{All};
+ghost use Rattle.std.specs.Prelude.{◌≡◌, ◌++◌, ◌∷◌, ◌+◌, ◌<◌, ◌≤◌, [], List, ℕ, map, length, OnOk, IfOk, All};
+ghost use Rattle.oc_bytes.specs.Outcome.{MakesList};
 ghost use Rattle.path_resolver.specs.declared.shot.Shot.{Shot as ShotFields};
 ghost use Rattle.path_tree.specs.declared.tree.Edit.{Edit as EditFields};
 ghost use Rattle.station.specs.Passes.{IsStationPass, carousel_of, pass_count, weights_of};
@@ -8,7 +8,7 @@ ghost use Rattle.generation_catalogue.specs.History.{with_draw};
 ghost use Rattle.generation_catalogue.specs.View.{state};
 ghost use Rattle.session_script.specs.Parts.{script_of_parts};
 ghost use Rattle.carousel_world.specs.Events.{Step};
-ghost use Rattle.shot_board.specs.Showers.{shown_by, shower_board, most_by, IsSameBoard};
+ghost use Rattle.shot_board.specs.Showers.{shown_by, shower_board, most_by, IsSameBoard, HasRoomFor, ShowsNothing};
 ghost use Rattle.history_merge.specs.Merges.{known_view};
 ghost use Rattle.session.specs.Chains.{DrawFields};
 ghost use Rattle.session.specs.Seats.{HasFed, IsEditorSeat};
@@ -51,8 +51,7 @@ pub(crate) struct Closed {
 
 /// All passes of a session: the editors' in order, and then the feeder's.
 fn passes_of(alloc: Global, editors: Vec<EditorSeat>, feeder: Pass) -> Result<Vec<Pass>, NoMemory>
-    ensures { IfOk result (λ passes.
-        passes.items ≡ map (λ seat. seat.pass) editors.items ++ feeder ∷ []) }
+    ensures { MakesList result (map (λ seat. seat.pass) editors.items ++ feeder ∷ []) }
 {
     let mut passes = Vec::new(alloc);
     for seat in editors {
@@ -141,8 +140,7 @@ impl Closed {
         shower: &mut Shower<Shot>,
         settles: bool,
     ) -> Result<(), NoMemory>
-        requires room { length (shown_by shower.old) + length (settling_lines settles)
-            ≤ most_by shower.old + 1 }
+        requires room { HasRoomFor shower.old (length (settling_lines settles)) }
         ensures board { IsSameBoard shower.old shower.new }
         ensures count { OnOk result
             (length (shown_by shower.new)
@@ -182,8 +180,7 @@ fn open_all(pass: &mut ReaderPass, paths: Vec<Path>) -> Result<(), NoMemory>
 /// A reader takes the last shot, and opens its paths for the end. Its pass is what is left of it. Out of memory is the only refusal.
 fn read_last(seat: ReaderSeat, shower: &mut Shower<Shot>) -> Result<ReaderPass, NoMemory>
     requires { MayOpenLast (shower_board shower.old) (shown_by shower.old) seat }
-    ensures board { (shown_by shower.new ≡ shown_by shower.old)
-        × IsSameBoard shower.old shower.new }
+    ensures board { ShowsNothing shower.old shower.new }
     ensures read { IfOk result (HasReadLast (shown_by shower.old) seat) }
 {
     let mut pass = seat.pass;
@@ -200,8 +197,7 @@ fn read_all(
     shower: &mut Shower<Shot>,
 ) -> Result<Vec<ReaderPass>, NoMemory>
     requires { All (MayOpenLast (shower_board shower.old) (shown_by shower.old)) readers.items }
-    ensures board { (shown_by shower.new ≡ shown_by shower.old)
-        × IsSameBoard shower.old shower.new }
+    ensures board { ShowsNothing shower.old shower.new }
     ensures read { IfOk result (λ passes.
         AllReadLast (shown_by shower.old) readers.items passes.items) }
 {

@@ -1,18 +1,18 @@
 //! What the feeder does.
-ghost use Rattle.std.specs.Prelude.{◌≡◌, ◌++◌, ◌∷◌, ◌+◌, ◌≤◌, [], List, ℕ, map, length, OnOk};
-ghost use Rattle.std.specs.List.{All, Contains};
+ghost use Rattle.std.specs.Prelude.{◌≡◌, ◌++◌, ◌∷◌, ◌+◌, ◌≤◌, [], List, ℕ, map, length, OnOk, All, Contains};
 ghost use Rattle.std.specs.Arc.{arc_value};
 ghost use Rattle.path_tree.specs.Paths.{Bytes};
-ghost use Rattle.generation.specs.Layouts.{items_of, section_of};
+ghost use Rattle.generation.specs.Layouts.{section_of, AreItemsOf};
 ghost use Rattle.section_stream.specs.Groups.{packets_of_group};
 ghost use Rattle.carousel_world.specs.DownView.{DownlinkStands};
 ghost use Rattle.carousel_world.specs.Fates.{received_under};
 ghost use Rattle.carousel_world.specs.World.{Drawing};
-ghost use Rattle.shot_board.specs.Showers.{shown_by, most_by, IsSameBoard};
+ghost use Rattle.shot_board.specs.Showers.{shown_by, most_by, IsSameBoard, HasRoomFor};
 ghost use Rattle.station.specs.Passes.{IsStationPass};
 ghost use Rattle.session.specs.Chains.{DrawFields};
 ghost use Rattle.session.specs.Shown.{HasShown};
-ghost use Rattle.session.specs.Seats.{HasFed, DidFeed, IsDrawLine, draw_of, drawing_in};
+ghost use Rattle.session.specs.Seats.{HasFed, DidFeed, IsDrawLine, draw_of};
+ghost use Rattle.session.specs.Inner.Seats.{drawing_in};
 ghost use Rattle.cycle_planner.specs.declared.TheConstants.{MOST_DRAWN};
 
 use carousel_world::{Downlink, Fate};
@@ -63,8 +63,7 @@ pub(crate) fn send_and_show<R: Threads + Wait + Sync, G: Gate>(
     batch: &Batch,
     fates: &[Fate],
 ) -> Result<(), NoMemory>
-    requires items { All (λ item. Contains (items_of (arc_value batch.now.generation)) item)
-        batch.now.items.items }
+    requires items { AreItemsOf (arc_value batch.now.generation) batch.now.items.items }
     requires few { length batch.now.items.items ≤ MOST_DRAWN }
     requires room { length (shown_by shower.old) ≤ most_by shower.old }
     ensures board { IsSameBoard shower.old shower.new }
@@ -104,7 +103,7 @@ fn send<R: Threads + Sync, G: Gate>(
     items: &[Item],
     fates: &[Fate],
 ) -> Result<(), NoMemory>
-    requires items { All (λ item. Contains (items_of generation.now) item) items.now }
+    requires items { AreItemsOf generation.now items.now }
     requires few { length items.now ≤ MOST_DRAWN }
     ensures { OnOk result ((pid : ℕ) (groups : List (List Bytes)) (packets : List Bytes)
         → DownlinkStands downlink.old pid groups [] packets
@@ -169,8 +168,7 @@ pub(crate) fn feed<R: Threads + Wait + Sync, G: Gate>(
 )
     requires pass { IsStationPass station.now seat.old.pass }
     requires lines { All IsDrawLine seat.old.draws.items }
-    requires room { length (shown_by shower.old) + length seat.old.draws.items
-        ≤ most_by shower.old + 1 }
+    requires room { HasRoomFor shower.old (length seat.old.draws.items) }
     ensures fed { DidFeed station.now seat.old seat.new (shown_by shower.old)
         (shown_by shower.new) }
     ensures board { IsSameBoard shower.old shower.new }

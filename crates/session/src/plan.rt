@@ -1,6 +1,5 @@
 //! What each actor of a script's session has to do, split off before anybody runs.
-ghost use Rattle.std.specs.Prelude.{◌≡◌, ◌+◌, ◌≤◌, ◌^◌, ◌++◌, ◌∷◌, [], List, ℕ, map, length, IfOk, OnOk, OnErr};
-ghost use Rattle.std.specs.List.{All};
+ghost use Rattle.std.specs.Prelude.{◌≡◌, ◌+◌, ◌≤◌, ◌^◌, ◌++◌, ◌∷◌, [], List, ℕ, map, length, IfOk, OnOk, OnErr, All};
 ghost use Rattle.session_script.specs.declared.parts.TaskLine.{TaskLine as TaskLines};
 ghost use Rattle.session_script.specs.Parts.{act_of, script_of_parts};
 ghost use Rattle.session_script.specs.Ranges.{IsInRange, IsInRanges};
@@ -8,9 +7,8 @@ ghost use Rattle.carousel_world.specs.Events.{Step};
 ghost use Rattle.carousel_world.specs.World.{InRange};
 ghost use Rattle.rehearsal.specs.Lines.{Pending, events_of_line, pending_after};
 ghost use Rattle.rehearsal.specs.Happening.{Holds, view_happening};
-ghost use Rattle.session.specs.Inner.ByActor.{lists_of};
-ghost use Rattle.session.specs.Lines.{draws_in, opens_by};
-ghost use Rattle.session.specs.Inner.Plans.{AreInRange, HasSplit, IsPlanOf, events_at, finale_step, settling_lines, waiting_below};
+ghost use Rattle.session.specs.Inner.Plans.{lists_of, AreInRange, HasSplit, IsPlanOf, events_at, finale_step, settling_lines, waiting_below, opens_by};
+ghost use Rattle.session.specs.Lines.{draws_in};
 
 use crate::by_actor::ByActor;
 use crate::editor::CommitLine;

@@ -1,9 +1,8 @@
 //! The seats of the readers before the start.
-ghost use Rattle.std.specs.Prelude.{◌≡◌, ◌++◌, ◌∷◌, ◌<◌, ◌+◌, [], List, ℕ, map, length, slice_index_or, OnOk};
-ghost use Rattle.std.specs.List.{All, Contains};
+ghost use Rattle.std.specs.Prelude.{◌≡◌, ◌++◌, ◌∷◌, ◌<◌, ◌+◌, [], List, ℕ, map, length, slice_index_or, OnOk, All, Contains};
 ghost use Rattle.path_resolver.specs.declared.shot.Shot.{Shot as ShotFields};
 ghost use Rattle.carousel_world.specs.Events.{Step, Open};
-ghost use Rattle.shot_board.specs.Showers.{shown_by, shower_board, IsSameBoard};
+ghost use Rattle.shot_board.specs.Showers.{shown_by, shower_board, ShowsNothing};
 ghost use Rattle.session.specs.Inner.Acting.{AreApart, IsKnown, Setting, ReadersStand, IsNext, reader_plan, readers_of};
 ghost use Rattle.session.specs.Lines.{draws_in};
 
@@ -49,8 +48,7 @@ pub(crate) fn open_now(seats: &mut Vec<ReaderSeat>, reader: u32, path: Path) -> 
 /// Tells each reader of all that was shown.
 pub(crate) fn tell(seats: &mut Vec<ReaderSeat>, shower: &mut Shower<Shot>)
     requires { All (λ seat. seat.pass.board ≡ shower_board shower.old) seats.old.items }
-    ensures board { (shown_by shower.new ≡ shown_by shower.old)
-        × IsSameBoard shower.old shower.new }
+    ensures board { ShowsNothing shower.old shower.new }
     ensures told { (length seats.new.items ≡ length seats.old.items)
         × ((k : ℕ) (d : _)
         → k < length seats.old.items
@@ -65,8 +63,7 @@ pub(crate) fn tell(seats: &mut Vec<ReaderSeat>, shower: &mut Shower<Shot>)
 /// Tells one reader of all that was shown.
 fn tell_one(seat: &mut ReaderSeat, shower: &mut Shower<Shot>)
     requires { seat.old.pass.board ≡ shower_board shower.old }
-    ensures board { (shown_by shower.new ≡ shown_by shower.old)
-        × IsSameBoard shower.old shower.new }
+    ensures board { ShowsNothing shower.old shower.new }
     ensures told { IsKnown (shown_by shower.old) seat.old seat.new }
 {
     seat.pass.learn(shower.front());

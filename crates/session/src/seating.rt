@@ -3,9 +3,7 @@ ghost use Rattle.std.specs.Prelude.{◌≡◌, ◌+◌, ◌≤◌, [], ◌∷◌
 ghost use Rattle.path_resolver.specs.declared.shot.Shot.{Shot as ShotFields};
 ghost use Rattle.shot_board.specs.Shots.{Each};
 ghost use Rattle.session_script.specs.declared.values.TheConstants.{MOST_ACTORS};
-ghost use Rattle.session.specs.Inner.ByActor.{lists_of};
-ghost use Rattle.session.specs.Lines.{opens_by};
-ghost use Rattle.session.specs.Inner.Plans.{before_steps, during_steps, end_steps};
+ghost use Rattle.session.specs.Inner.Plans.{lists_of, before_steps, during_steps, end_steps, opens_by};
 ghost use Rattle.session.specs.Inner.Acting.{AreApart, IsNewSeat, IsViewerOf, ReadersStand, Setting, asked_for, reader_plan, view_happening};
 
 use crate::by_actor::ByActor;

@@ -5,7 +5,7 @@ ghost use Rattle.shot_board.specs.Showers.{shown_by, IsSameBoard};
 ghost use Rattle.session.specs.Inner.Acting.{Setting};
 ghost use Rattle.session.specs.Inner.Plans.{before_steps};
 ghost use Rattle.session.specs.Inner.Casting.{CastStands, HasWork, IsBoardOf, IsCast};
-ghost use Rattle.session.specs.Inner.Threads.{CastDone, IsWhole, MayEnd};
+ghost use Rattle.session.specs.Inner.Ending.{CastDone, IsWhole, MayEnd};
 
 use crate::actors::run_actors;
 use crate::cast::Cast;

@@ -6,8 +6,7 @@ ghost use Rattle.history_merge.specs.Merges.{known_view};
 ghost use Rattle.shot_board.specs.Showers.{shown_by};
 ghost use Rattle.session.specs.Sessions.{IsSession};
 ghost use Rattle.session.specs.Inner.Acting.{Setting};
-ghost use Rattle.session.specs.Inner.Casting.{IsBoardOf};
-ghost use Rattle.session.specs.Inner.Playing.{IsBegun};
+ghost use Rattle.session.specs.Inner.Casting.{IsBoardOf, IsBegun};
 
 use crate::acts::act_all;
 use crate::cast::Cast;
@@ -17,6 +16,7 @@ use crate::feeder::FeederSeat;
 use crate::plan::{Plan, Work, plan_of};
 use crate::seating::reader_seats;
 use crate::threads::run_all;
+use carousel_profile::{CAROUSEL_PID, SCRIPT_CAROUSEL};
 use carousel_world::{Downlink, Event, Reply};
 use cycle_planner::Weigh;
 use oc_bytes::NoMemory;
@@ -30,10 +30,10 @@ use std::sync::Wait;
 use std::thread::Threads;
 
 /// The PID on which a session sends.
-const PID: u16 = 256;
+const PID: u16 = CAROUSEL_PID;
 
 /// The carousel of a session.
-const CAROUSEL: u32 = 1;
+const CAROUSEL: u32 = SCRIPT_CAROUSEL;
 
 /// Runs a script's session of carousel 1, each of whose modules is sent as often a cycle as it weighs, and gives its history.
 ///

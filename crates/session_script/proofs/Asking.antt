@@ -1,13 +1,5 @@
 -- A line that fits and does something asks for memory.
-use Rattle.std.proofs.Common.{◌≡◌, Bool, true, false, ◌||◌, ◌&&◌, cond, eqb, List, [], ◌∷◌, Option, Some, None, Result, Ok, Err, ap}
-use Rattle.path_tree.specs.Paths.{Bytes}
-use Rattle.session_script.specs.declared.keyword.Keyword.{Keyword}
-use Rattle.session_script.specs.declared.line.Part.{Part}
-use Rattle.session_script.specs.declared.script.LineCause.{LineCause}
-use Rattle.session_script.specs.declared.script.LineCause.TheVariants.{Order}
-use Rattle.session_script.specs.Keywords.{keyword_of}
-use Rattle.session_script.specs.Grammar.{Saying, Passed, said_by, may_stand, in_order, in_words, words_in, line_by}
-use Rattle.session_script.specs.Memory.{has_path, reaches_path, is_kept, asks_in_order, asks_in_words, line_asks}
+use Rattle.session_script.proofs.Imports.{◌≡◌, Bool, true, false, ◌||◌, ◌&&◌, cond, eqb, List, [], ◌∷◌, Option, Some, None, Result, Ok, Err, ap, Bytes, Keyword, Part, LineCause, Order, keyword_of, Saying, Passed, said_by, may_stand, in_order, in_words, words_in, line_by, has_path, reaches_path, is_kept, asks_in_order, asks_in_words, line_asks}
 
 kept_by : (r : Result Saying LineCause) (other : Bool) → is_kept r ≡ true → (is_kept r || other) ≡ true
 kept_by r other h = ap (λ b. b || other) h

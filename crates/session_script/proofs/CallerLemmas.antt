@@ -1,6 +1,6 @@
 -- Lemmas for those who use this crate.
 -- The lines of a part of a script, one after another: `line_at` and `none_left` say which are left, `at_place` what holds of one of them. The numbers of
--- a script that lie in their ranges do so part by part: `before_in_range`, `during_in_range`, `finales_in_range`.
+-- a script that lie in their ranges do so part by part: `before_in_range`, `during_in_range`, `finales_in_range`. A `for` over a vector: `item_comes`, `items_came`.
 use Rattle.std.proofs.Common.{◌≡◌, ℕ, suc, ◌<◌, List, [], ◌∷◌, ◌++◌, length, map, drop, get_or, All, Option, sym, ap, ◌∙◌, subst, arith, ◌+◌}
 use Rattle.std.proofs.lemmas.List.{length-append, get_or_append_left, get_or-append-add, get_or-map, length-map}
 use Rattle.std.proofs.Math.Seq.{drop-cons, drop-length}
@@ -10,12 +10,12 @@ use Rattle.session_script.specs.declared.script.Stage.TheVariants.{Before, Durin
 use Rattle.session_script.specs.Scripts.{LineFields}
 use Rattle.session_script.specs.Parts.{act_of, task_line, settle_lines, finale_line, lines_of}
 use Rattle.session_script.specs.Ranges.{IsActor, IsInRange}
+pub use Rattle.session_script.proofs.Lists.{item_comes, items_came}
 
 -- a line stands first of those that are left, and those after it are left then
 pub line_at : {A : Type 0} (view : A → LineFields) (xs yielded : List A) (rest : List LineFields) (x : A) → length yielded < length xs → x ≡ get_or xs (length yielded) x
     → map view (drop (length yielded) xs) ++ rest ≡ view x ∷ (map view (drop (length (yielded ++ x ∷ [])) xs) ++ rest)
-line_at {A = A} view xs yielded rest x lt at =
-    let k = length yielded in
+line_at {A = A} view xs yielded rest x lt at = let k = length yielded in
     let next : suc k ≡ length (yielded ++ x ∷ []) = let e = length-append yielded (x ∷ []) in omega (arith, e) in
     ap (λ (ys : List A). map view ys ++ rest) (drop-cons xs k x lt)
     ∙ ap (λ (y : A). view y ∷ (map view (drop (suc k) xs) ++ rest)) (sym at)

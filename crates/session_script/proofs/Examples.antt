@@ -1,14 +1,7 @@
 -- Lines and scripts whose meaning is known, computed by the definitions.
-use Rattle.std.proofs.Common.{◌≡◌, List, [], ◌∷◌, Ok, Err, refl, codes}
-use Rattle.std.specs.List.{join_with_byte}
+use Rattle.session_script.proofs.Imports.{◌≡◌, List, [], ◌∷◌, Ok, Err, refl, codes, join_with_byte, Bytes, PathNames, Opening, Running, Closing, Unknown, Order, BadNumber, BadPath, BadHex, BadFate, Missing, Extra, Before, During, After, Put, Fill, Remove, MakeFolder, RemoveFolder, Commit, Draw, Open, Settle, Passed, Does, Ends, line_by, meaning_of}
 use Rattle.hex.proofs.OnLiterals.{hex_on_literals}
-use Rattle.path_tree.specs.Paths.{Bytes, PathNames}
 use Rattle.ts_packet.specs.declared.Fate.TheVariants.{Keep, Lose, Flip}
-use Rattle.session_script.specs.declared.line.Part.TheVariants.{Opening, Running, Closing}
-use Rattle.session_script.specs.declared.script.LineCause.TheVariants.{Unknown, Order, BadNumber, BadPath, BadHex, BadFate, Missing, Extra}
-use Rattle.session_script.specs.declared.script.Stage.TheVariants.{Before, During, After}
-use Rattle.session_script.specs.Scripts.{Put, Fill, Remove, MakeFolder, RemoveFolder, Commit, Draw, Open, Settle}
-use Rattle.session_script.specs.Grammar.{Passed, Does, Ends, line_by, meaning_of}
 
 x : PathNames
 x = codes "x" ∷ []

@@ -1,15 +1,6 @@
 -- The lines of a generated script are in their ranges, and are of the actors that it lists.
-use Rattle.std.proofs.Common.{◌≡◌, ℕ, ◌+◌, ◌*◌, ◌%◌, ◌≤◌, ◌<◌, List, [], ◌∷◌, ◌++◌, length, map, All, Contains, refl, arith}
-use Rattle.std.specs.List.{flat_map, range_with_len}
-use Rattle.std.proofs.lemmas.List.Elements.{All-nil, All-cons, All-head, All-tail, All-append, All-map, All-replicate}
-use Rattle.std.proofs.lemmas.List.FromFn.{length-range_with_len}
-use Rattle.path_tree.specs.Paths.{PathNames}
-use Rattle.session_script.specs.declared.script.Stage.{Stage}
-use Rattle.session_script.specs.declared.script.Stage.TheVariants.{During, After}
-use Rattle.session_script.specs.Scripts.{Act, LineFields}
+use Rattle.session_script.proofs.Imports.{◌≡◌, ℕ, ◌+◌, ◌*◌, ◌%◌, ◌≤◌, ◌<◌, List, [], ◌∷◌, ◌++◌, length, map, All, Contains, refl, arith, flat_map, range_with_len, All-nil, All-cons, All-head, All-tail, All-append, All-map, All-replicate, length-range_with_len, PathNames, Stage, During, After, Act, LineFields, IsActor, IsInRange, AreActors, IsInRanges, IsMentioned, AreListed, numbers, file_path, fill_of, commit_of, lines_of_editor, fates, lines_of_feeder, open_of, lines_of_reader, finale_of, finales_of, acts_during, acts_at_end, number_lines, generated_script}
 use Rattle.session_script.specs.Scripts as acts
-use Rattle.session_script.specs.Ranges.{IsActor, IsInRange, AreActors, IsInRanges, IsMentioned, AreListed}
-use Rattle.session_script.specs.Generated.{numbers, file_path, fill_of, commit_of, lines_of_editor, fates, lines_of_feeder, open_of, lines_of_reader, finale_of, finales_of, acts_during, acts_at_end, number_lines, generated_script}
 use Rattle.session_script.proofs.Lists.{all_in_range, in_range, range_is_distinct, all_flat}
 
 -- what is wanted of a line in a session of this size
@@ -50,8 +41,7 @@ draw_fits size = let e : length fates ≡ 50 = refl in record { range = (omega a
 
 commit_of_fits : (size e j : ℕ) → IsOne size e → All (Fits size) (commit_of e j)
 unfolding commit_of
-commit_of_fits size e j one =
-    All-append (Fits size) (map (fill_of e) (range_with_len (8 * j) 8)) (acts.Commit e ∷ [])
+commit_of_fits size e j one = All-append (Fits size) (map (fill_of e) (range_with_len (8 * j) 8)) (acts.Commit e ∷ [])
     (All-map (Fits size) (fill_of e) (range_with_len (8 * j) 8) (all_in_range (λ k. Fits size (fill_of e k)) (8 * j) 8 (λ k a b. fill_fits size e k one)))
     (All-cons (Fits size) (acts.Commit e) [] (commit_fits size e one) (All-nil (Fits size)))
 
@@ -79,8 +69,7 @@ of_numbers size P f most h = all_flat P f (range_with_len 1 size) (all_in_range 
 
 during_fits : (size : ℕ) → size ≤ 16 → All (Fits size) (acts_during size)
 unfolding acts_during
-during_fits size most =
-    All-append (Fits size) (flat_map lines_of_editor (numbers size) ++ lines_of_feeder) (flat_map (lines_of_reader size) (numbers size))
+during_fits size most = All-append (Fits size) (flat_map lines_of_editor (numbers size) ++ lines_of_feeder) (flat_map (lines_of_reader size) (numbers size))
     (All-append (Fits size) (flat_map lines_of_editor (numbers size)) lines_of_feeder (of_numbers size (Fits size) lines_of_editor most (editor_fits size)) (feeder_fits size))
     (of_numbers size (Fits size) (lines_of_reader size) most (reader_fits size))
 

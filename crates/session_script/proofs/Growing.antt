@@ -1,17 +1,7 @@
 -- What all that is said is, with one line more.
-use Rattle.std.proofs.Common.{◌≡◌, ℕ, suc, ◌+◌, Bool, true, false, not, ◌||◌, cond, eqb, List, [], ◌∷◌, ◌++◌, length, map, filter, Option, Some, None, refl, ap, arith, ◌∙◌, sym, append-nil}
-use Rattle.std.specs.List.{list_any, filter_map}
-use Rattle.std.proofs.lemmas.Bool.{eqb-true, cond-true}
+use Rattle.session_script.proofs.Imports.{◌≡◌, ℕ, suc, ◌+◌, Bool, true, false, not, ◌||◌, cond, eqb, List, [], ◌∷◌, ◌++◌, length, map, filter, Option, Some, None, refl, ap, arith, ◌∙◌, sym, append-nil, list_any, filter_map, eqb-true, cond-true, filter-append, filter_map-append, Part, Opening, Running, Closing, Before, During, Act, Saying, Passed, Starts, Does, Ends, is_start, is_end, part_of, who, first_mentions, actors, stage_above, lines_from, with_mention, as_before}
 use Rattle.std.proofs.lemmas.List.Folds.{list_any-append}
-use Rattle.std.proofs.lemmas.List.Elements.{filter-append, filter_map-append}
 use Rattle.indexmap.specs.IndexSet.{insert_key}
-use Rattle.session_script.specs.declared.line.Part.{Part}
-use Rattle.session_script.specs.declared.line.Part.TheVariants.{Opening, Running, Closing}
-use Rattle.session_script.specs.declared.script.Stage.TheVariants.{Before, During}
-use Rattle.session_script.specs.Scripts.{Act}
-use Rattle.session_script.specs.Grammar.{Saying, Passed, Starts, Does, Ends, is_start, is_end, part_of, who, first_mentions, actors, stage_above, lines_from}
-use Rattle.session_script.specs.Inner.Mentions.{with_mention}
-use Rattle.session_script.specs.Inner.Readings.{as_before}
 
 or_false : (b : Bool) → (b || false) ≡ b
 or_false true = refl
@@ -71,10 +61,8 @@ pub lines_more : (n : ℕ) (above : List Saying) (saying : Saying) → is_start 
 lines_more n [] saying h = ap (λ m. lines_from m (saying ∷ [])) (omega arith)
 lines_more n (Passed ∷ below) saying h = lines_more (n + 1) below saying h ∙ ap (λ ls. lines_from (n + 1) below ++ ls) (shifted n (length below) saying)
 lines_more n (Starts ∷ below) saying h = lines_more (n + 1) below saying h ∙ ap (λ ls. lines_from (n + 1) below ++ ls) (shifted n (length below) saying)
-lines_more n (Does act ∷ below) saying h =
-    rw (stage_more below saying h, lines_more (n + 1) below saying h, shifted n (length below) saying) refl
-lines_more n (Ends act ∷ below) saying h =
-    rw (lines_more (n + 1) below saying h, shifted n (length below) saying) refl
+lines_more n (Does act ∷ below) saying h = rw (stage_more below saying h, lines_more (n + 1) below saying h, shifted n (length below) saying) refl
+lines_more n (Ends act ∷ below) saying h = rw (lines_more (n + 1) below saying h, shifted n (length below) saying) refl
 
 started_stage : (below : List Saying) → stage_above (below ++ Starts ∷ []) ≡ Before
 started_stage below = ap (λ b. cond b Before During) (any_more is_start below Starts ∙ or_true (list_any is_start below)) where
@@ -124,11 +112,9 @@ push_under n m xs true = refl
 push_under n m xs false = refl
 
 first_by : (m n : ℕ) (xs : List ℕ) (b : Bool) → eqb m n ≡ b → n ∷ filter (λ k. not (eqb k n)) (insert_key eqb xs m) ≡ insert_key eqb (n ∷ filter (λ k. not (eqb k n)) xs) m
-first_by m n xs true h =
-    cons_eq n (filter_insert_same m n xs h (list_any (eqb m) xs))
+first_by m n xs true h = cons_eq n (filter_insert_same m n xs h (list_any (eqb m) xs))
     ∙ sym (cond-true (eqb m n || list_any (eqb m) (filter (λ k. not (eqb k n)) xs)) _ _ (ap (λ b. b || list_any (eqb m) (filter (λ k. not (eqb k n)) xs)) h))
-first_by m n xs false h =
-    cons_eq n (filter_insert_other m n xs h (list_any (eqb m) xs)) ∙ push_under n m _ (list_any (eqb m) xs)
+first_by m n xs false h = cons_eq n (filter_insert_other m n xs h (list_any (eqb m) xs)) ∙ push_under n m _ (list_any (eqb m) xs)
     ∙ sym (ap (λ b. cond b (n ∷ filter (λ k. not (eqb k n)) xs) ((n ∷ filter (λ k. not (eqb k n)) xs) ++ m ∷ []))
     (ap (λ b. b || list_any (eqb m) (filter (λ k. not (eqb k n)) xs)) h ∙ other m n xs h))
 

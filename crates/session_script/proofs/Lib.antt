@@ -1,3 +1,4 @@
+pub mod Imports
 pub mod Numbers
 pub mod Runs
 pub mod Growing

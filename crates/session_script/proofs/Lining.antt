@@ -1,16 +1,5 @@
 -- How many lines a generated script has, and their numbers.
-use Rattle.std.proofs.Common.{◌≡◌, ℕ, ◌+◌, ◌*◌, ◌≤◌, List, [], ◌∷◌, ◌++◌, length, map, Some, refl, sym, ap, ◌∙◌, arith, length-append}
-use Rattle.std.specs.List.{flat_map}
-use Rattle.std.proofs.lemmas.List.{length-map, map-append, map-id}
-use Rattle.std.proofs.lemmas.List.FromFn.{length-range_with_len}
-use Rattle.path_tree.specs.Paths.{PathNames}
-use Rattle.session_script.specs.declared.parts.Task.{Task}
-use Rattle.session_script.specs.declared.parts.Parts.{Parts}
-use Rattle.session_script.specs.declared.script.Stage.{Stage}
-use Rattle.session_script.specs.declared.script.Stage.TheVariants.{During, After}
-use Rattle.session_script.specs.Scripts.{Act, LineFields, Open}
-use Rattle.session_script.specs.Parts.{act_of, task_line, finale_line, script_of_parts}
-use Rattle.session_script.specs.Generated.{numbers, commit_of, lines_of_editor, lines_of_feeder, lines_of_reader, finales_of, acts_during, acts_at_end, number_lines, generated_script}
+use Rattle.session_script.proofs.Imports.{◌≡◌, ℕ, ◌+◌, ◌*◌, ◌≤◌, List, [], ◌∷◌, ◌++◌, length, map, Some, refl, sym, ap, ◌∙◌, arith, length-append, flat_map, length-map, map-append, length-range_with_len, PathNames, Task, Parts, Stage, During, After, Act, LineFields, Open, act_of, task_line, finale_line, script_of_parts, numbers, commit_of, lines_of_editor, lines_of_feeder, lines_of_reader, finales_of, acts_during, acts_at_end, number_lines, generated_script}
 
 -- ---- how many
 
@@ -37,8 +26,7 @@ editors_count (e ∷ es) =
 
 readers_count : (size : ℕ) (rs : List ℕ) → length (flat_map (lines_of_reader size) rs) ≡ 64 * length rs
 readers_count size [] = refl
-readers_count size (r ∷ rs) =
-    let here = reader_count size r in let rest = readers_count size rs in
+readers_count size (r ∷ rs) = let here = reader_count size r in let rest = readers_count size rs in
     let both = length-append (lines_of_reader size r) (flat_map (lines_of_reader size) rs) in omega (arith, here, rest, both)
 
 finales_count : (es : List ℕ) → length (flat_map finales_of es) ≡ 32 * length es
@@ -52,8 +40,7 @@ numbers_count size = length-range_with_len 1 size
 
 during_count : (size : ℕ) → length (acts_during size) ≡ 100 * size + 64
 unfolding acts_during
-during_count size =
-    let e = editors_count (numbers size) in let r = readers_count size (numbers size) in let n = numbers_count size in
+during_count size = let e = editors_count (numbers size) in let r = readers_count size (numbers size) in let n = numbers_count size in
     let one = length-append (flat_map lines_of_editor (numbers size)) lines_of_feeder in
     let two = length-append (flat_map lines_of_editor (numbers size) ++ lines_of_feeder) (flat_map (lines_of_reader size) (numbers size)) in
     let f = feeder_count in omega (arith, e, r, n, one, two, f)
@@ -85,10 +72,6 @@ one_numbered view act first stage number done made x y h is = record {
       ∙ sym (ap (number_lines first stage) (map-append act done (x ∷ []))
       ∙ numbered_more first number stage (map act done) (act x) (let n = h.next in let l = length-map done act in omega (arith, n, l)));
 }
-
-pub all_numbered : {A B : Type 0} (view : B → LineFields) (act : A → Act) (first : ℕ) (stage : Stage) (number : ℕ) (done all : List A) (made : List B) → map (λ (x : A). x) done ≡ all
-    → AreNumbered view act first stage number done made → map view made ≡ number_lines first stage (map act all)
-all_numbered view act first stage number done all made e h = h.lines ∙ ap (λ xs. number_lines first stage (map act xs)) (sym (map-id done) ∙ e)
 
 -- ---- the whole
 

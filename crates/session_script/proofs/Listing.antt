@@ -1,18 +1,7 @@
 -- A script lists all whom its lines name.
-use Rattle.std.proofs.Common.{◌≡◌, ℕ, suc, ◌+◌, ◌==◌, Bool, true, not, cond, List, [], ◌∷◌, filter, All, Contains, Option, Some, None, Result, Ok, Err, ◌⊎◌, inl, inr, sym, ap, ◌∙◌, refl, subst, arith, ne_eqb}
-use Rattle.std.specs.List.{filter_map, cons_option}
-use Rattle.std.proofs.lemmas.List.Elements.{All-nil, All-cons}
-use Rattle.std.proofs.lemmas.Bool.{cond_both}
+use Rattle.session_script.proofs.Imports.{◌≡◌, ℕ, suc, ◌+◌, ◌==◌, Bool, true, not, cond, List, [], ◌∷◌, filter, All, Contains, Option, Some, None, Result, Ok, Err, ◌⊎◌, inl, inr, sym, ap, ◌∙◌, refl, subst, arith, ne_eqb, filter_map, cons_option, All-nil, All-cons, cond_both, cap_at_u32, Bytes, LineCause, Stage, After, Act, Put, Fill, Remove, MakeFolder, RemoveFolder, Commit, Draw, Open, Settle, LineFields, Fields, IsMentioned, AreListed, Saying, Passed, Starts, Does, Ends, ◌>>=◌, sayings, lines_in, editor_of, reader_of, who, first_mentions, stage_above, lines_from, script_of, meaning_of}
 use mathlib.Core.Logic.{dite}
 use native.Mathlib.Decide.{ℕ_discrete}
-use Rattle.oc_bytes.specs.Outcome.{cap_at_u32}
-use Rattle.path_tree.specs.Paths.{Bytes}
-use Rattle.session_script.specs.declared.script.LineCause.{LineCause}
-use Rattle.session_script.specs.declared.script.Stage.{Stage}
-use Rattle.session_script.specs.declared.script.Stage.TheVariants.{After}
-use Rattle.session_script.specs.Scripts.{Act, Put, Fill, Remove, MakeFolder, RemoveFolder, Commit, Draw, Open, Settle, LineFields, Fields}
-use Rattle.session_script.specs.Ranges.{IsMentioned, AreListed}
-use Rattle.session_script.specs.Grammar.{Saying, Passed, Starts, Does, Ends, ◌>>=◌, sayings, lines_in, editor_of, reader_of, who, first_mentions, stage_above, lines_from, script_of, meaning_of}
 
 abbrev line_at : ℕ → Stage → Act → LineFields
 line_at n stage act = record { number = cap_at_u32 n; stage = stage; act = act }
@@ -70,16 +59,14 @@ module _ (editors readers : List ℕ) where
       All-cons (λ (l : LineFields). IsMentioned editors readers l.act) (line_at k (stage_above below) act) (lines_from (k + 1) below)
       (act_mentioned editors readers act (λ n is. e n (in_here n (editor_of act) (filter_map (who editor_of) below) is)) (λ n is. r n (in_here n (reader_of act) (filter_map (who reader_of) below) is)))
       (all_mentioned (k + 1) below (lists_rest editor_of (Does act) below editors e) (lists_rest reader_of (Does act) below readers r))
-  all_mentioned k (Ends act ∷ below) e r =
-      All-cons (λ (l : LineFields). IsMentioned editors readers l.act) (line_at k After act) (lines_from (k + 1) below)
+  all_mentioned k (Ends act ∷ below) e r = All-cons (λ (l : LineFields). IsMentioned editors readers l.act) (line_at k After act) (lines_from (k + 1) below)
       (act_mentioned editors readers act (λ n is. e n (in_here n (editor_of act) (filter_map (who editor_of) below) is)) (λ n is. r n (in_here n (reader_of act) (filter_map (who reader_of) below) is)))
       (all_mentioned (k + 1) below (lists_rest editor_of (Ends act) below editors e) (lists_rest reader_of (Ends act) below readers r))
 
 -- ---- scripts
 
 all_listed : (all : List Saying) → AreListed (script_of all)
-all_listed all =
-    all_mentioned (first_mentions (filter_map (who editor_of) all)) (first_mentions (filter_map (who reader_of) all)) 1 all
+all_listed all = all_mentioned (first_mentions (filter_map (who editor_of) all)) (first_mentions (filter_map (who reader_of) all)) 1 all
     (λ n i. in_first n (filter_map (who editor_of) all) i) (λ n i. in_first n (filter_map (who reader_of) all) i)
 
 meant : (r : Result (List Saying) (ℕ × LineCause)) (script : Fields) → (r >>= λ all. Ok (script_of all)) ≡ Ok script → (all : List Saying) × (script_of all ≡ script)
@@ -88,5 +75,4 @@ meant (Err fault) script h = absurd (cc)
 
 -- every script that a text gives
 pub scripts_listed : (text : Bytes) (script : Fields) → meaning_of text ≡ Ok script → AreListed script
-scripts_listed text script h =
-    let m = meant (sayings [] (lines_in text)) script h in subst AreListed m.1 (all_listed m.0)
+scripts_listed text script h = let m = meant (sayings [] (lines_in text)) script h in subst AreListed m.1 (all_listed m.0)

@@ -1,19 +1,16 @@
 -- Lists that grow by ranges.
-use Rattle.std.proofs.Common.{◌≡◌, ℕ, zero, suc, ◌+◌, ◌-◌, ◌≤◌, ◌<◌, Bool, true, false, ◌&&◌, List, [], ◌∷◌, ◌++◌, map, All, Contains, refl, sym, ap, ◌∙◌, arith, append_assoc, ne_eqb}
-use Rattle.std.specs.Prelude.{nat_eq, replicate}
-use Rattle.std.specs.List.{flat_map, range_with_len, list_all, AllByRecursion, IsDistinct}
-use Rattle.std.proofs.lemmas.Grind.{replicate_next}
-use Rattle.std.proofs.lemmas.List.{map-append, flat_map_more}
-use Rattle.std.proofs.lemmas.List.FromFn.{map-range_with_len_more}
-use Rattle.std.proofs.lemmas.List.Elements.{All-nil, All-cons, All-head, All-tail, All-append}
+use Rattle.session_script.proofs.Imports.{◌≡◌, ℕ, zero, suc, ◌+◌, ◌-◌, ◌≤◌, ◌<◌, Bool, true, false, ◌&&◌, List, [], ◌∷◌, ◌++◌, map, All, Contains, refl, sym, ap, ◌∙◌, arith, append_assoc, ne_eqb, nat_eq, flat_map, range_with_len, list_all, AllByRecursion, IsDistinct, map-append, flat_map_more, map-range_with_len_more, All-nil, All-cons, All-head, All-tail, All-append, length, get_or, take, Option, Some, None, YieldsList-turn, YieldsList-end}
+use Rattle.std.proofs.lemmas.List.{map-id}
+use Rattle.std.specs.Iterator.{Yields}
+use Rattle.std.specs.Vec.Iter.{into_iter_items, into_iter_len, into_iter_steps}
+use Rattle.std.proofs.lemmas.Iterator.Adapters.{YieldsList-from_vec}
+use Rattle.std.proofs.lemmas.Iterator.Consumers.{YieldsList-so_far}
 
 -- ---- ranges
 
 range_next : (a n : ℕ) → range_with_len a (suc n) ≡ range_with_len a n ++ (a + n) ∷ []
 range_next a zero = let e : a ≡ a + 0 = omega arith in ap (λ x. x ∷ []) e
-range_next a (suc n) =
-    let e : a + 1 + n ≡ a + suc n = omega arith in
-    ap (λ xs. a ∷ xs) (range_next (a + 1) n ∙ ap (λ x. range_with_len (a + 1) n ++ x ∷ []) e)
+range_next a (suc n) = let e : a + 1 + n ≡ a + suc n = omega arith in ap (λ xs. a ∷ xs) (range_next (a + 1) n ∙ ap (λ x. range_with_len (a + 1) n ++ x ∷ []) e)
 
 pub range_more : (a n : ℕ) → range_with_len a (n + 1) ≡ range_with_len a n ++ (a + n) ∷ []
 range_more a n = let on : n + 1 ≡ suc n = omega arith in ap (range_with_len a) on ∙ range_next a n
@@ -79,14 +76,22 @@ pub push_more : {A B : Type 0} (view : A → B) (f : ℕ → B) (xs : List A) (b
 push_more view f xs base x a n m j at more so_far is =
     rw (more, map-range_with_len_more f a n j at) (map-append view xs (x ∷ []) ∙ rw (so_far, is) (append_assoc base (map f (range_with_len a n)) (f j ∷ [])))
 
--- one more of the same
-pub push_same : {A B : Type 0} (view : A → B) (y : B) (xs : List A) (base : List B) (x : A) (n : ℕ) → map view xs ≡ base ++ replicate n y → view x ≡ y
-    → map view (xs ++ x ∷ []) ≡ base ++ replicate (n + 1) y
-push_same view y xs base x n so_far is = rw (replicate_next n y) (push_last view xs base (replicate n y) x y so_far is)
-
 -- one more list of those that stand for a range
 pub put_more : {A : Type 0} (f : ℕ → List A) (base now new : List A) (a n m j : ℕ) → a + n ≡ j → m ≡ n + 1
     → now ≡ base ++ flat_map f (range_with_len a n) → new ≡ now ++ f j → new ≡ base ++ flat_map f (range_with_len a m)
 put_more f base now new a n m j at more so_far is =
     let next : range_with_len a m ≡ range_with_len a n ++ j ∷ [] = ap (range_with_len a) more ∙ range_more a n ∙ ap (λ k. range_with_len a n ++ k ∷ []) at in
     is ∙ ap (λ ys. ys ++ f j) so_far ∙ flat_map_more f base (range_with_len a n) j ∙ ap (λ ys. base ++ flat_map f ys) (sym next)
+
+-- ---- a `for` over the items of a vector
+
+-- an item that comes is the next of them, after those that came
+pub item_comes : {A Z : Type 0} (s : _) (all : List A) → into_iter_items s ≡ all → into_iter_len s ≡ length all → (xs : List A) (t : _) → Yields (into_iter_steps {X = A} {Z = Z}) s xs t
+    → {r : Option A} (u : _) {x : A} → r ≡ Some x → into_iter_steps t r u → (length xs < length all) × (x ≡ get_or all (length xs) x) × (xs ≡ take (length xs) all)
+item_comes s all items len xs t y {r} u {x} is steps =
+    let list = YieldsList-from_vec {s = s} all items len in let turn = YieldsList-turn list xs t y r u x is steps in (turn.0, turn.1, sym (map-id xs) ∙ YieldsList-so_far list xs t y)
+
+-- where none comes, all of them came
+pub items_came : {A Z : Type 0} (s : _) (all : List A) → into_iter_items s ≡ all → into_iter_len s ≡ length all → (xs : List A) (t : _) → Yields (into_iter_steps {X = A} {Z = Z}) s xs t
+    → {r : Option A} (u : _) → r ≡ None → into_iter_steps t r u → xs ≡ all
+items_came s all items len xs t y {r} u is steps = sym (map-id xs) ∙ (YieldsList-end (YieldsList-from_vec {s = s} all items len) xs t y r u is steps).0

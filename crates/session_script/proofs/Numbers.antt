@@ -1,16 +1,10 @@
 -- Decimal digits, and what `parse` reads of them.
-use Rattle.std.proofs.Common.{◌≡◌, ℕ, ◌+◌, ◌-◌, ◌*◌, ◌^◌, ◌<◌, Bool, true, false, ◌&&◌, List, [], ◌∷◌, length, Result, Ok, Err, refl, arith, rules, lit<, ◌∙◌, sym}
-use Rattle.std.specs.List.{fold, list_all}
-use Rattle.std.specs.Option.{SomeIff}
-use Rattle.std.specs.Result.{OkIff, result_ok}
-use Rattle.std.specs.Str.{IsAscii, IsUtf8}
+use Rattle.session_script.proofs.Imports.{◌≡◌, ℕ, ◌+◌, ◌-◌, ◌*◌, ◌^◌, ◌<◌, Bool, true, false, ◌&&◌, List, [], ◌∷◌, length, Result, Ok, Err, refl, arith, rules, lit<, ◌∙◌, sym, fold, list_all, SomeIff, OkIff, IsAscii, IsUtf8, leb-true, and_parts, is_digit, is_decimal, decimal_value}
+use Rattle.std.specs.Result.{result_ok}
 use Rattle.std.specs.Str.Parse.{ParsesUnsigned}
-use borrow.Author.Tests.{leb-true}
-use Rattle.std.proofs.lemmas.Bool.{and_parts}
 use Rattle.std.proofs.lemmas.Str.{IsUtf8-from_ascii}
 use Rattle.std.proofs.lemmas.Str.Ascii.{IsAscii-nil, IsAscii-cons}
 use Rattle.std.proofs.lemmas.Str.Parse.{IsNumeralModel, numerals_by_fold, parse_digits}
-use Rattle.oc_bytes.specs.Decimals.{is_digit, is_decimal, decimal_value}
 
 and_true : (b : Bool) → b ≡ (b && true)
 and_true true = refl

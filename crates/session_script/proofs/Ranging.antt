@@ -1,24 +1,7 @@
 -- The numbers of a script lie in their ranges, and no actor stands twice.
-use Rattle.std.proofs.Common.{◌≡◌, ℕ, ◌+◌, ◌<◌, ◌≤◌, Bool, true, false, not, ◌&&◌, ◌||◌, cond, eqb, nat_le, List, [], ◌∷◌, ◌++◌, length, filter, Option, Some, None, Result, Ok, Err, refl, ap, subst, arith, sym}
-use Rattle.std.specs.List.{All, AllByRecursion, IsDistinct, list_any, filter_map, cons_option}
-use borrow.Author.Tests.{leb-true}
-use Rattle.std.proofs.lemmas.Bool.{and_parts, eqb-true, eqb-false, ne_eqb}
-use Rattle.std.proofs.lemmas.List.Elements.{All-nil, All-cons, All-push, All-filter, All-head, All-tail}
+use Rattle.session_script.proofs.Imports.{◌≡◌, ℕ, ◌+◌, ◌<◌, ◌≤◌, Bool, true, false, not, ◌&&◌, ◌||◌, cond, eqb, nat_le, List, [], ◌∷◌, ◌++◌, length, filter, Option, Some, None, Result, Ok, Err, refl, ap, subst, arith, sym, All, AllByRecursion, IsDistinct, list_any, filter_map, cons_option, leb-true, and_parts, eqb-true, eqb-false, ne_eqb, All-nil, All-cons, All-push, All-filter, All-head, All-tail, cond_some, is_decimal, decimal_value, decimal_in, Bytes, PathNames, Fate, Keyword, Part, LineCause, Order, BadNumber, BadPath, BadHex, BadFate, Act, Put, Fill, Remove, MakeFolder, RemoveFolder, Commit, Draw, Open, Settle, Fields, keyword_of, actor_of, path_in, content_in, all_fates, if_within_limit, fates_of, Saying, Passed, Starts, Does, Ends, ◌>>=◌, or_cause, word_by, no_more, put_by, fill_by, named_by, commit_by, draw_by, as_saying, said_by, may_stand, in_order, in_words, words_in, line_by, lines_in, part_of, or_bad_line, sayings, who, editor_of, reader_of, first_mentions, lines_from, script_of, meaning_of, IsActor, IsInRange, AreActors, IsInRanges}
 use Rattle.std.proofs.lemmas.Map.Steps.{length-le_from_distinct_below}
-use Rattle.std.proofs.lemmas.Option.{cond_some}
-use Rattle.oc_bytes.specs.Decimals.{is_decimal, decimal_value, decimal_in}
-use Rattle.path_tree.specs.Paths.{Bytes, PathNames}
-use Rattle.ts_packet.specs.declared.Fate.{Fate}
-use Rattle.session_script.specs.declared.keyword.Keyword.{Keyword}
 use Rattle.session_script.specs.declared.keyword.Keyword.TheVariants as keywords
-use Rattle.session_script.specs.declared.line.Part.{Part}
-use Rattle.session_script.specs.declared.script.LineCause.{LineCause}
-use Rattle.session_script.specs.declared.script.LineCause.TheVariants.{Order, BadNumber, BadPath, BadHex, BadFate}
-use Rattle.session_script.specs.Scripts.{Act, Put, Fill, Remove, MakeFolder, RemoveFolder, Commit, Draw, Open, Settle, Fields}
-use Rattle.session_script.specs.Keywords.{keyword_of}
-use Rattle.session_script.specs.Values.{actor_of, path_in, content_in, all_fates, if_within_limit, fates_of}
-use Rattle.session_script.specs.Grammar.{Saying, Passed, Starts, Does, Ends, ◌>>=◌, or_cause, word_by, no_more, put_by, fill_by, named_by, commit_by, draw_by, as_saying, said_by, may_stand, in_order, in_words, words_in, line_by, lines_in, part_of, or_bad_line, sayings, who, editor_of, reader_of, first_mentions, lines_from, script_of, meaning_of}
-use Rattle.session_script.specs.Ranges.{IsActor, IsInRange, AreActors, IsInRanges}
 
 -- ---- numbers in words
 
@@ -28,8 +11,7 @@ bounds least greatest n word h =
     let q = and_parts (is_decimal word && nat_le least (decimal_value word)) (nat_le (decimal_value word) greatest) p.0 in
     let r = and_parts (is_decimal word) (nat_le least (decimal_value word)) q.0 in
     let low : least ≤ decimal_value word = leb-true least (decimal_value word) r.1 in
-    let high : decimal_value word ≤ greatest = leb-true (decimal_value word) greatest q.1 in
-    let same : decimal_value word ≡ n = p.1 in
+    let high : decimal_value word ≤ greatest = leb-true (decimal_value word) greatest q.1 in let same : decimal_value word ≡ n = p.1 in
     (omega arith, omega arith)
 
 -- ---- the steps of a line, backwards
@@ -57,40 +39,26 @@ actor_range : (words : List Bytes) (x : ℕ × List Bytes) → word_by actor_of 
 actor_range words x h = let b = number_range 1 64 words x h in record { at_least = b.0; at_most = b.1 }
 
 put_range : (words : List Bytes) (act : Act) → put_by words ≡ Ok act → IsInRange act
-put_range words act h =
-    let a = went (word_by actor_of BadNumber words) _ act h in
-    let b = went (word_by path_in BadPath a.0.1) _ act a.2 in
-    let c = went (word_by content_in BadHex b.0.1) _ act b.2 in
-    subst IsInRange (ended (Put a.0.0 b.0.0 c.0.0) act c.0.1 c.2) (actor_range words a.0 a.1)
+put_range words act h = let a = went (word_by actor_of BadNumber words) _ act h in let b = went (word_by path_in BadPath a.0.1) _ act a.2 in
+    let c = went (word_by content_in BadHex b.0.1) _ act b.2 in subst IsInRange (ended (Put a.0.0 b.0.0 c.0.0) act c.0.1 c.2) (actor_range words a.0 a.1)
 
 fill_range : (words : List Bytes) (act : Act) → fill_by words ≡ Ok act → IsInRange act
-fill_range words act h =
-    let a = went (word_by actor_of BadNumber words) _ act h in
-    let b = went (word_by path_in BadPath a.0.1) _ act a.2 in
-    let c = went (word_by (decimal_in 0 16777217) BadNumber b.0.1) _ act b.2 in
-    let d = went (word_by (decimal_in 0 255) BadNumber c.0.1) _ act c.2 in
-    let size = number_range 0 16777217 b.0.1 c.0 c.1 in
-    let from = number_range 0 255 c.0.1 d.0 d.1 in
-    let below : d.0.0 < 256 = omega (arith, from.1) in
+fill_range words act h = let a = went (word_by actor_of BadNumber words) _ act h in let b = went (word_by path_in BadPath a.0.1) _ act a.2 in
+    let c = went (word_by (decimal_in 0 16777217) BadNumber b.0.1) _ act b.2 in let d = went (word_by (decimal_in 0 255) BadNumber c.0.1) _ act c.2 in
+    let size = number_range 0 16777217 b.0.1 c.0 c.1 in let from = number_range 0 255 c.0.1 d.0 d.1 in let below : d.0.0 < 256 = omega (arith, from.1) in
     subst IsInRange (ended (Fill a.0.0 b.0.0 c.0.0 d.0.0) act d.0.1 d.2) (actor_range words a.0 a.1, size.1, below)
 
 named_range : (words : List Bytes) (named : ℕ × PathNames) → named_by words ≡ Ok named → IsActor named.0
-named_range words named h =
-    let a = went (word_by actor_of BadNumber words) _ named h in
-    let b = went (word_by path_in BadPath a.0.1) _ named a.2 in
+named_range words named h = let a = went (word_by actor_of BadNumber words) _ named h in let b = went (word_by path_in BadPath a.0.1) _ named a.2 in
     subst (λ (n : ℕ × PathNames). IsActor n.0) (ended (a.0.0, b.0.0) named b.0.1 b.2) (actor_range words a.0 a.1)
 
 commit_range : (words : List Bytes) (act : Act) → commit_by words ≡ Ok act → IsInRange act
-commit_range words act h =
-    let a = went (word_by actor_of BadNumber words) _ act h in
+commit_range words act h = let a = went (word_by actor_of BadNumber words) _ act h in
     subst IsInRange (ended (Commit a.0.0) act a.0.1 a.2) (actor_range words a.0 a.1)
 
 few_fates : (o : Option (List Fate)) (fates : List Fate) → if_within_limit o ≡ Some fates → length fates ≤ 65536
-few_fates (Some all) fates h =
-    let p = cond_some (nat_le (length all) 65536) all fates h in
-    let l : length all ≤ 65536 = leb-true (length all) 65536 p.0 in
-    let e : length all ≡ length fates = ap length p.1 in
-    omega arith
+few_fates (Some all) fates h = let p = cond_some (nat_le (length all) 65536) all fates h in let l : length all ≤ 65536 = leb-true (length all) 65536 p.0 in
+    let e : length all ≡ length fates = ap length p.1 in omega arith
 few_fates None fates h = cc
 
 abbrev ok : {A : Type 0} → A → Result A LineCause
@@ -100,10 +68,8 @@ same_act : (x y : Act) → ok x ≡ Ok y → x ≡ y
 same_act x y h = cc
 
 draw_range : (words : List Bytes) (act : Act) → draw_by words ≡ Ok act → IsInRange act
-draw_range words act h =
-    let a = went (word_by (decimal_in 1 1048576) BadNumber words) _ act h in
-    let b = went (or_cause BadFate [] (fates_of a.0.1)) _ act a.2 in
-    let asked = number_range 1 1048576 words a.0 a.1 in
+draw_range words act h = let a = went (word_by (decimal_in 1 1048576) BadNumber words) _ act h in
+    let b = went (or_cause BadFate [] (fates_of a.0.1)) _ act a.2 in let asked = number_range 1 1048576 words a.0 a.1 in
     let fates = had BadFate [] (fates_of a.0.1) b.0 b.1 in
     subst IsInRange (same_act (Draw a.0.0 b.0.0) act b.2) (asked.0, asked.1, few_fates (all_fates a.0.1) b.0.0 fates)
 
@@ -212,9 +178,7 @@ first_once (n ∷ ns) = (others_differ n (first_mentions ns), kept_distinct (λ 
 
 none_zero : (xs : List ℕ) → All IsActor xs → AllByRecursion (λ y. eqb 0 y ≡ false) xs
 none_zero [] h = tt
-none_zero (x ∷ xs) h =
-    let least = (All-head IsActor x xs h).at_least in
-    (ne_eqb 0 x (λ e. omega arith), none_zero xs (All-tail IsActor x xs h))
+none_zero (x ∷ xs) h = let least = (All-head IsActor x xs h).at_least in (ne_eqb 0 x (λ e. omega arith), none_zero xs (All-tail IsActor x xs h))
 
 below_by : (q x : ℕ) (xs : List ℕ) (b : Bool) → eqb q x ≡ b → x < 65 → (list_any (eqb q) xs ≡ true → q < 65) → (b || list_any (eqb q) xs) ≡ true → q < 65
 below_by q x xs true e l rest h = let same : q ≡ x = eqb-true q x e in omega arith
@@ -222,9 +186,7 @@ below_by q x xs false e l rest h = rest h
 
 below : (xs : List ℕ) → All IsActor xs → (q : ℕ) → list_any (eqb q) xs ≡ true → q < 65
 below [] h q f = cc
-below (x ∷ xs) h q f =
-    let most = (All-head IsActor x xs h).at_most in
-    below_by q x xs (eqb q x) refl (omega arith) (below xs (All-tail IsActor x xs h) q) f
+below (x ∷ xs) h q f = let most = (All-head IsActor x xs h).at_most in below_by q x xs (eqb q x) refl (omega arith) (below xs (All-tail IsActor x xs h) q) f
 
 with_zero : (xs : List ℕ) → All IsActor xs → (q : ℕ) → list_any (eqb q) (0 ∷ xs) ≡ true → q < 65
 with_zero xs h q f = below_by q 0 xs (eqb q 0) refl (omega arith) (below xs h q) f
@@ -234,9 +196,7 @@ unfolding IsDistinct
 few xs h once = let l = length-le_from_distinct_below (0 ∷ xs) 65 (none_zero xs h, once) (with_zero xs h) in omega arith
 
 are_actors : (ns : List ℕ) → All IsActor ns → AreActors (first_mentions ns)
-are_actors ns h =
-    let each = first_each ns h in
-    record { each = each; once = first_once ns; most = few (first_mentions ns) each (first_once ns) }
+are_actors ns h = let each = first_each ns h in record { each = each; once = first_once ns; most = few (first_mentions ns) each (first_once ns) }
 
 -- the actors that an act names are in range with it
 abbrev NamesActors : (Act → Option ℕ) → Type 0
@@ -295,6 +255,5 @@ meant (Err fault) script h = cc
 
 -- every script that a text gives
 pub scripts_range : (text : Bytes) (script : Fields) → meaning_of text ≡ Ok script → IsInRanges script
-scripts_range text script h =
-    let m = meant (sayings [] (lines_in text)) script h in
+scripts_range text script h = let m = meant (sayings [] (lines_in text)) script h in
     subst IsInRanges m.2 (script_range m.0 (sayings_range [] m.0 (lines_in text) m.1 (All-nil _)))

@@ -1,12 +1,5 @@
 -- What a reading stands for after one line more.
-use Rattle.std.proofs.Common.{◌≡◌, ℕ, ◌+◌, ◌-◌, ◌^◌, min, List, [], ◌∷◌, ◌++◌, length, refl, ap, arith, ◌∙◌, sym, length-append, append-nil}
-use Rattle.oc_bytes.specs.Outcome.{cap_at_u32}
-use Rattle.session_script.specs.declared.line.Part.TheVariants.{Opening}
-use Rattle.session_script.specs.declared.script.Stage.TheVariants.{During, After}
-use Rattle.session_script.specs.declared.reading.Reading.{Reading}
-use Rattle.session_script.specs.Grammar.{Saying, Passed, Starts, Does, Ends, part_of, lines_from, editor_of, reader_of, who}
-use Rattle.session_script.specs.Inner.Readings.{StandsFor, Adds, part_after, lines_after}
-use Rattle.session_script.specs.Inner.Mentions.{with_mention}
+use Rattle.session_script.proofs.Imports.{◌≡◌, ℕ, ◌+◌, ◌-◌, ◌^◌, min, List, [], ◌∷◌, ◌++◌, length, refl, ap, arith, ◌∙◌, sym, length-append, append-nil, cap_at_u32, Opening, During, After, Reading, Saying, Passed, Starts, Does, Ends, part_of, lines_from, editor_of, reader_of, who, StandsFor, Adds, part_after, lines_after, with_mention}
 use Rattle.session_script.proofs.Growing.{part_passed, part_does, part_ends, part_starts, lines_more, lines_started, actors_more}
 
 -- ---- one line more

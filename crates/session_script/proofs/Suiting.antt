@@ -1,11 +1,6 @@
 -- What a line may say in the part in which it stands.
-use Rattle.std.proofs.Common.{◌≡◌}
-use Rattle.session_script.specs.declared.line.Part.{Part}
-use Rattle.session_script.specs.declared.line.Part.TheVariants.{Opening}
-use Rattle.session_script.specs.declared.line.Said.{Said}
+use Rattle.session_script.proofs.Imports.{◌≡◌, Part, Opening, Said, Starts, Suits, view_said}
 use Rattle.session_script.specs.declared.line.Said.TheVariants as code
-use Rattle.session_script.specs.Grammar.{Starts}
-use Rattle.session_script.specs.Steps.{Suits, view_said}
 
 -- what starts stands in the opening part
 pub starts_suit : (part : Part) (said : Said) → Suits part said → view_said said ≡ Starts → part ≡ Opening

@@ -1,25 +1,12 @@
 -- The lines of a text, read one after another.
-use Rattle.std.proofs.Common.{◌≡◌, ℕ, ◌+◌, ◌<◌, ◌≤◌, ◌⊎◌, inl, inr, Bool, true, false, List, [], ◌∷◌, ◌++◌, length, get_or, take, drop, Option, Some, None, Result, Ok, Err, refl, ap, arith, ◌∙◌, sym}
+use Rattle.session_script.proofs.Imports.{◌≡◌, ℕ, ◌+◌, ◌<◌, ◌≤◌, ◌⊎◌, inl, inr, Bool, true, false, List, [], ◌∷◌, ◌++◌, length, get_or, take, drop, Option, Some, None, Result, Ok, Err, refl, ap, arith, ◌∙◌, sym, Bor, YieldsList-at, YieldsList-turn, YieldsList-end, take_more, drop_more, take_all, take-append-drop, Gives, cap_at_u32, Bytes, Reading, LineCause, Parts, LineFields, Fields, cause, script_of_parts, Saying, Passed, Starts, Does, Ends, part_of, line_by, is_feed, lines_in, or_bad_line, sayings, actors, editor_of, reader_of, lines_from, script_of, meaning_of, ◌>>=◌, is_kept, line_asks, AsksForMemory, StandsFor, Reads, lines_read}
 use Rattle.std.specs.Slice.Iter as slice
 use Rattle.std.specs.Fn.{CalledAt}
 use Rattle.std.specs.Iterator.{Yields}
 use denote.Param.Members.{Mut}
-use denote.Ref.{Bor}
 use Rattle.std.proofs.lemmas.Iterator.Splits.{YieldsList-from_slice_split}
-use Rattle.std.proofs.lemmas.Iterator.Consumers.{YieldsList-at, YieldsList-turn, YieldsList-end}
-use Rattle.std.proofs.lemmas.List.{take_more, drop_more, take_all, take-append-drop}
-use Rattle.oc_bytes.specs.Outcome.{Gives, cap_at_u32}
-use Rattle.path_tree.specs.Paths.{Bytes}
-use Rattle.session_script.specs.declared.reading.Reading.{Reading}
-use Rattle.session_script.specs.declared.script.LineCause.{LineCause}
-use Rattle.session_script.specs.declared.parts.Parts.{Parts}
 use Rattle.session_script.specs.declared.script.ScriptFault.{ScriptFault}
 use Rattle.session_script.specs.declared.script.ScriptFault.TheVariants as faults
-use Rattle.session_script.specs.Scripts.{LineFields, Fields, cause}
-use Rattle.session_script.specs.Parts.{script_of_parts}
-use Rattle.session_script.specs.Grammar.{Saying, Passed, Starts, Does, Ends, part_of, line_by, is_feed, lines_in, or_bad_line, sayings, actors, editor_of, reader_of, lines_from, script_of, meaning_of, ◌>>=◌}
-use Rattle.session_script.specs.Memory.{is_kept, line_asks, AsksForMemory}
-use Rattle.session_script.specs.Inner.Readings.{StandsFor, Reads, lines_read}
 use Rattle.session_script.proofs.Growing.{actors_more}
 use Rattle.session_script.proofs.Asking.{kept_asks}
 
@@ -120,8 +107,7 @@ walks text n old new line w next reads = record {
 -- the first line that doesn't fit
 pub fails : (text : Bytes) (n : ℕ) (r : Reading) (line : Bytes) (w : Walked text n r) → IsNext text n line → (number : ℕ) (fault : LineCause)
     → (number ≡ cap_at_u32 (length w.said + 1)) × (line_by (part_of w.said) line ≡ Err fault) → meaning_of text ≡ Err (number, fault)
-fails text n r line w next number fault h =
-    ap (λ all. all >>= λ all. Ok (script_of all))
+fails text n r line w next number fault h = ap (λ all. all >>= λ all. Ok (script_of all))
     (ap (sayings []) (cut_at_line text n line next) ∙ sayings-append [] w.said (take n (lines_in text)) _ w.fits ∙ one_fails w.said line (drop (n + 1) (lines_in text)) fault h.1
     ∙ ap (λ m. Err (m, fault)) (sym h.0))
 
@@ -130,19 +116,8 @@ said_script editors readers lines = Ok (record { editors = editors; readers = re
 
 -- all lines fit
 pub ends : (text : Bytes) (n : ℕ) (r : Reading) (w : Walked text n r) → length (lines_in text) ≤ n → meaning_of text ≡ Ok (record { editors = r.editors.keys; readers = r.readers.keys; lines = lines_read r })
-ends text n r w l =
-    ap (λ all. all >>= λ all. Ok (script_of all)) (ap (sayings []) (sym (take_all n (lines_in text) l)) ∙ w.fits)
+ends text n r w l = ap (λ all. all >>= λ all. Ok (script_of all)) (ap (sayings []) (sym (take_all n (lines_in text) l)) ∙ w.fits)
     ∙ sym (λ i. said_script (w.stands.editors i) (w.stands.readers i) (w.stands.lines i))
-
-none_listed : (editors readers : List ℕ) → editors ≡ [] → readers ≡ [] → 0 < length editors + length readers → ⊥
-none_listed editors readers e f l = let a = ap length e in let b = ap length f in omega arith
-
--- actors were mentioned, so memory was asked for
-pub asked_for : (text : Bytes) (n : ℕ) (r : Reading) (w : Walked text n r) → 0 < length r.editors.keys + length r.readers.keys → AsksForMemory text
-asked_for text n r w l = elim w.asked [
-  | inl a ↦ a
-  | inr e ↦ absurd (none_listed r.editors.keys r.readers.keys (w.stands.editors ∙ e.editors) (w.stands.readers ∙ e.readers) l)
-]
 
 none_counted : {A : Type 0} (xs : List A) → xs ≡ [] → 0 < length xs → ⊥
 none_counted xs e l = let a = ap length e in omega arith
@@ -165,13 +140,9 @@ refused X text n r new line w next faults.NoMemory h = tt
 module _ {F : Type 0} (g : Mut F (Bor ℕ × Unit {0}) Bool) (text : Bytes) {f : F} (begun s t u : _) (same : s ≡ begun) (rest : slice.split_rest begun ≡ text) (more : slice.split_done begun ≡ false) (closure : slice.split_callee begun ≡ f)
     (xs : List (Bor (List ℕ))) (y : Yields (slice.split_steps g) s xs t) (r : Option (Bor (List ℕ))) (steps : slice.split_steps g t r u) (tests : (x : ℕ) (b : Bool) (q : F) → CalledAt g f x b q → (q ≡ f) × (b ≡ is_feed x)) where
   pub next_line : (x : Bor (List ℕ)) → r ≡ Some x → IsNext text (length xs) x.now
-  next_line x e =
-      let road = YieldsList-at same (YieldsList-from_slice_split g is_feed text rest more closure tests) in
-      let turn = YieldsList-turn road xs t y r u x e steps in
-      record { within = turn.0; at = turn.1 }
+  next_line x e = let road = YieldsList-at same (YieldsList-from_slice_split g is_feed text rest more closure tests) in
+      let turn = YieldsList-turn road xs t y r u x e steps in record { within = turn.0; at = turn.1 }
 
   pub no_more_lines : r ≡ None → length (lines_in text) ≤ length xs
-  no_more_lines e =
-      let road = YieldsList-at same (YieldsList-from_slice_split g is_feed text rest more closure tests) in
-      let end = YieldsList-end road xs t y r u e steps in
-      omega arith
+  no_more_lines e = let road = YieldsList-at same (YieldsList-from_slice_split g is_feed text rest more closure tests) in
+      let end = YieldsList-end road xs t y r u e steps in omega arith

@@ -1,7 +1,6 @@
 -- The script that `big` plays: as many editors as readers, a feeder, and a last look at every file. It is this project's own.
-use Rattle.std.specs.Prelude.{ℕ, ◌+◌, ◌*◌, ◌%◌, List, [], ◌∷◌, ◌++◌, map, replicate, length, codes}
-use Rattle.std.specs.List.{flat_map, range_with_len}
-use Rattle.std.specs.Fmt.{decimal}
+use Rattle.std.specs.Prelude.{ℕ, ◌+◌, ◌*◌, ◌%◌, List, [], ◌∷◌, ◌++◌, map, replicate, length, codes, flat_map, decimal}
+use Rattle.std.specs.List.{range_with_len}
 use Rattle.path_tree.specs.Paths.{PathNames}
 use Rattle.ts_packet.specs.declared.Fate.{Fate}
 use Rattle.ts_packet.specs.declared.Fate.TheVariants.{Keep, Lose}

@@ -1,6 +1,6 @@
 -- The grammar of scripts: what a line says, which lines may stand where, and the first line that doesn't fit.
-use Rattle.std.specs.Prelude.{ℕ, ◌+◌, Bool, true, false, ◌==◌, not, List, [], ◌∷◌, ◌++◌, length, filter, Option, Some, None, Result, Ok, Err, if◌then◌else◌}
-use Rattle.std.specs.List.{list_any, filter_map, slice_split}
+use Rattle.std.specs.Prelude.{ℕ, ◌+◌, Bool, true, false, ◌==◌, not, List, [], ◌∷◌, ◌++◌, length, filter, Option, Some, None, Result, Ok, Err, if◌then◌else◌, filter_map}
+use Rattle.std.specs.List.{list_any, slice_split}
 use Rattle.oc_bytes.specs.Outcome.{cap_at_u32}
 use Rattle.oc_bytes.specs.Decimals.{decimal_in}
 use Rattle.path_tree.specs.Paths.{Bytes, PathNames}

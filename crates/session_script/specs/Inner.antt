@@ -1,3 +1,3 @@
 -- What private functions and invariants are stated in; no public contract names it.
-pub mod Mentions
 pub mod Readings
+pub mod Steps

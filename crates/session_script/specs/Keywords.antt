@@ -1,8 +1,5 @@
 -- The first words of lines.
-use Rattle.std.specs.Prelude.{List, [], ◌∷◌, Option, codes}
-use Rattle.std.specs.Option.{option_map}
-use Rattle.std.specs.List.{find}
-use Rattle.std.specs.Str.{bytes_eq}
+use Rattle.std.specs.Prelude.{List, [], ◌∷◌, Option, codes, option_map, find, bytes_eq}
 use Rattle.path_tree.specs.Paths.{Bytes}
 use Rattle.session_script.specs.declared.keyword.Keyword.{Keyword}
 use Rattle.session_script.specs.declared.keyword.Keyword.TheVariants.{Put, Fill, Remove, MakeFolder, RemoveFolder, Commit, Draw, Open, Start, Settle, Finale}

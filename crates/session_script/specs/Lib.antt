@@ -5,7 +5,6 @@ pub mod Keywords
 pub mod Values
 pub mod Grammar
 pub mod Memory
-pub mod Steps
 pub mod Ranges
 pub mod Generated
 pub mod Inner

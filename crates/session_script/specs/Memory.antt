@@ -8,7 +8,7 @@ use Rattle.session_script.specs.declared.line.Part.{Part}
 use Rattle.session_script.specs.declared.script.LineCause.{LineCause}
 use Rattle.session_script.specs.Keywords.{keyword_of}
 use Rattle.session_script.specs.Values.{actor_of}
-use Rattle.session_script.specs.Grammar.{Saying, Passed, Starts, Does, Ends, said_by, may_stand, words_in, lines_in, part_of, sayings}
+use Rattle.session_script.specs.Grammar.{Saying, Does, Ends, said_by, may_stand, words_in, lines_in, part_of, sayings}
 
 -- the words begin with an actor, and the word of a path follows
 abbrev pub reaches_path : List Bytes → Bool
@@ -17,25 +17,17 @@ reaches_path (actor ∷ []) = false
 reaches_path (actor ∷ path ∷ words) = is_some (actor_of actor)
 
 abbrev pub has_path : Keyword → Bool
-has_path keywords.Put = true
-has_path keywords.Fill = true
-has_path keywords.Remove = true
-has_path keywords.MakeFolder = true
-has_path keywords.RemoveFolder = true
 has_path keywords.Commit = false
 has_path keywords.Draw = false
-has_path keywords.Open = true
 has_path keywords.Start = false
 has_path keywords.Settle = false
-has_path keywords.Finale = true
+has_path _ = true
 
 -- the line fits and does something, which is kept
 abbrev pub is_kept : Result Saying LineCause → Bool
-is_kept (Ok Passed) = false
-is_kept (Ok Starts) = false
 is_kept (Ok (Does act)) = true
 is_kept (Ok (Ends act)) = true
-is_kept (Err fault) = false
+is_kept _ = false
 
 abbrev pub asks_by : Keyword → List Bytes → Bool
 asks_by keyword words = is_kept (said_by keyword words) || (has_path keyword && reaches_path words)

@@ -1,5 +1,6 @@
 -- A script in its parts, and the script that they make.
-use Rattle.std.specs.Prelude.{ℕ, List, [], ◌∷◌, ◌++◌, map, Option, Some, None}
+use Rattle.std.specs.Prelude.{ℕ, List, [], ◌∷◌, ◌++◌, map, Option, Some, None, ◌≡◌}
+use Rattle.std.specs.declared.vec.Vec.{Vec}
 use Rattle.session_script.specs.declared.parts.Task.{Task}
 use Rattle.session_script.specs.declared.parts.Task.TheVariants as tasks
 use Rattle.session_script.specs.declared.parts.TaskLine.{TaskLine}
@@ -19,6 +20,10 @@ act_of (tasks.RemoveFolder editor path) = RemoveFolder editor path
 act_of (tasks.Commit editor) = Commit editor
 act_of (tasks.Draw asked fates) = Draw asked fates.items
 act_of (tasks.Open reader path) = Open reader path
+
+-- these acts stand behind those of the tasks before
+abbrev pub AddsActs : {Z : Type 0} → Vec Task Z → Vec Task Z → List Act → Type 0
+AddsActs old new acts = map act_of new.items ≡ map act_of old.items ++ acts
 
 abbrev pub task_line : Stage → TaskLine → LineFields
 task_line stage line = record { number = line.number; stage = stage; act = act_of line.task }

@@ -1,6 +1,6 @@
 -- What holds of every script that a text gives.
-use Rattle.std.specs.Prelude.{ℕ, ◌≤◌, ◌<◌, nat_eq, List, length}
-use Rattle.std.specs.List.{All, Contains, IsDistinct}
+use Rattle.std.specs.Prelude.{ℕ, ◌≤◌, ◌<◌, nat_eq, List, length, All, Contains}
+use Rattle.std.specs.List.{IsDistinct}
 use Rattle.session_script.specs.Scripts.{Act, Put, Fill, Remove, MakeFolder, RemoveFolder, Commit, Draw, Open, Settle, LineFields, Fields}
 use Rattle.cycle_planner.specs.declared.TheConstants.{MOST_DRAWN}
 use Rattle.session_script.specs.declared.line.TheConstants.{MOST_FILLED}

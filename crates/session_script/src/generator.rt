@@ -1,5 +1,6 @@
 //! A generated script.
 ghost use Rattle.std.specs.Prelude.{◌≡◌, ◌+◌, ◌≤◌, ◌<◌, ◌^◌, map, length, IfOk};
+ghost use Rattle.oc_bytes.specs.Outcome.{MakesList};
 ghost use Rattle.session_script.specs.declared.script.Stage.TheVariants.{During, After};
 ghost use Rattle.session_script.specs.Scripts.{Open};
 ghost use Rattle.session_script.specs.Parts.{act_of, task_line, finale_line, script_of_parts};
@@ -47,7 +48,7 @@ pub fn generated(alloc: Global, size: u32) -> Result<Parts, NoMemory>
 /// The numbers 1 to `size`.
 fn numbers(alloc: Global, size: u32) -> Result<Vec<u32>, NoMemory>
     requires { size ≤ 16 }
-    ensures { IfOk result (λ list. list.items ≡ numbers_to size) }
+    ensures { MakesList result (numbers_to size) }
 {
     let mut list = Vec::new(alloc);
     for number in 1..size + 1 {

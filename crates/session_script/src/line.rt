@@ -4,7 +4,7 @@ ghost use Rattle.oc_bytes.specs.Outcome.{Gives};
 ghost use Rattle.session_script.specs.Grammar.{named_by, draw_by, said_by, may_stand, in_words, line_by, Ends, Starts};
 ghost use Rattle.session_script.specs.Grammar as grammar;
 ghost use Rattle.session_script.specs.Memory.{reaches_path, asks_by, asks_in_words, line_asks};
-ghost use Rattle.session_script.specs.Steps.{words_left, line_cause, view_said, is_said_by, Suits};
+ghost use Rattle.session_script.specs.Inner.Steps.{words_left, line_cause, view_said, is_said_by, Suits};
 
 use crate::keyword::Keyword;
 use crate::parts::Task;

@@ -1,7 +1,6 @@
 //! Numbers in decimal digits.
-ghost use Rattle.std.specs.Prelude.{◌≡◌, ◌≤◌, ◌<◌, ◌^◌, true, IfSome};
+ghost use Rattle.std.specs.Prelude.{◌≡◌, ◌≤◌, ◌<◌, ◌^◌, true, IfSome, SomeIff};
 ghost use Rattle.std.specs.List.{list_all};
-ghost use Rattle.std.specs.Option.{SomeIff};
 ghost use Rattle.oc_bytes.specs.Decimals as decimals;
 
 /// The number that a word spells, from `least` to `greatest`: decimal digits without a sign and without a leading zero,

@@ -1,7 +1,7 @@
 //! A script, read line by line.
 ghost use Rattle.std.specs.Prelude.{◌≡◌, ◌+◌, ◌<◌, true, Ok, Err, [], List, length, map, IfOk, OnOk, OnErr, IsErrOf};
-ghost use Rattle.oc_bytes.specs.Outcome.{Gives};
-ghost use Rattle.session_script.specs.Inner.Mentions.{with_mention};
+ghost use Rattle.oc_bytes.specs.Outcome.{Gives, MakesList};
+ghost use Rattle.session_script.specs.Inner.Readings.{with_mention};
 ghost use Rattle.session_script.specs.Scripts.{cause};
 ghost use Rattle.session_script.specs.Scripts as scripts;
 ghost use Rattle.session_script.specs.Parts.{act_of, script_of_parts};
@@ -40,7 +40,7 @@ impl Reading {
     ghost use Rattle.session_script.specs.Scripts.{Open};
     ghost use Rattle.session_script.specs.Grammar.{Saying, Starts, Does, Ends};
     ghost use Rattle.session_script.specs.Memory.{line_asks, is_kept};
-    ghost use Rattle.session_script.specs.Steps.{view_said, Suits};
+    ghost use Rattle.session_script.specs.Inner.Steps.{view_said, Suits};
     ghost use Rattle.session_script.specs.Inner.Readings.{StandsFor, Adds, IsShaped, Reads, lines_read};
     ghost use Rattle.session_script.specs.declared.line.Part.TheVariants.{Opening, Closing};
 
@@ -210,7 +210,7 @@ fn mention(actors: &mut IndexSet<u32>, actor: Option<u32>) -> Result<(), NoMemor
 
 /// The actors, in their order.
 fn listed(alloc: Global, actors: &IndexSet<u32>) -> Result<Vec<u32>, NoMemory>
-    ensures list { IfOk result (λ list. list.items ≡ actors.now.keys) }
+    ensures list { MakesList result actors.now.keys }
     ensures memory { OnErr result (0 < length actors.now.keys) }
 {
     let mut list = Vec::with_capacity(alloc, actors.len())?;

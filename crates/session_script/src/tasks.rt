@@ -1,10 +1,9 @@
 //! What the actors of a generated script are asked for.
-ghost use Rattle.std.specs.Prelude.{◌≡◌, ◌++◌, ◌∷◌, ◌≤◌, ◌<◌, true, [], map, length, codes, IfOk, OnOk};
-ghost use Rattle.std.specs.List.{flat_map};
-ghost use Rattle.std.specs.Fmt.{decimal};
+ghost use Rattle.std.specs.Prelude.{◌≡◌, ◌++◌, ◌∷◌, ◌≤◌, ◌<◌, true, [], map, length, codes, IfOk, OnOk, flat_map, decimal};
+ghost use Rattle.oc_bytes.specs.Outcome.{MakesList};
 ghost use Rattle.path_tree.specs.Texts.{is_name};
 ghost use Rattle.session_script.specs.Scripts.{Open};
-ghost use Rattle.session_script.specs.Parts.{act_of};
+ghost use Rattle.session_script.specs.Parts.{act_of, AddsActs};
 ghost use Rattle.session_script.specs.Generated as specs;
 
 use crate::parts::Task;
@@ -69,6 +68,7 @@ fn folder_path(alloc: Global, editor: u32) -> Result<Path, NoMemory>
 }
 
 /// An editor puts one of its files.
+#[tactic(auto, unfolding(crate::specs::Generated::fill_of))]
 fn fill(alloc: Global, editor: u32, file: u32) -> Result<Task, NoMemory>
     requires editor { editor ≤ 16 }
     requires file { file < 32 }
@@ -88,8 +88,7 @@ fn put_commit(
 ) -> Result<(), NoMemory>
     requires editor { editor ≤ 16 }
     requires commit { commit < 4 }
-    ensures { OnOk result
-        (map act_of tasks.new.items ≡ map act_of tasks.old.items ++ specs.commit_of editor commit) }
+    ensures { OnOk result (AddsActs tasks.old tasks.new (specs.commit_of editor commit)) }
 {
     let first = FILES_IN_COMMIT * commit;
     for place in 0..FILES_IN_COMMIT {
@@ -102,8 +101,7 @@ fn put_commit(
 /// All that an editor does.
 fn put_editor(alloc: Global, tasks: &mut Vec<Task>, editor: u32) -> Result<(), NoMemory>
     requires { editor ≤ 16 }
-    ensures { OnOk result
-        (map act_of tasks.new.items ≡ map act_of tasks.old.items ++ specs.lines_of_editor editor) }
+    ensures { OnOk result (AddsActs tasks.old tasks.new (specs.lines_of_editor editor)) }
 {
     for commit in 0..COMMITS {
         put_commit(alloc, tasks, editor, commit)?;
@@ -112,8 +110,9 @@ fn put_editor(alloc: Global, tasks: &mut Vec<Task>, editor: u32) -> Result<(), N
 }
 
 /// The fates of a draw's packets.
+#[tactic(auto, unfolding(crate::specs::Generated::fates))]
 fn fates(alloc: Global) -> Result<Vec<Fate>, NoMemory>
-    ensures { IfOk result (λ fates. fates.items ≡ specs.fates) }
+    ensures { MakesList result specs.fates }
 {
     let mut fates = vec![in alloc; Fate::Keep; KEPT]?;
     fates.push(Fate::Lose)?;
@@ -122,8 +121,7 @@ fn fates(alloc: Global) -> Result<Vec<Fate>, NoMemory>
 
 /// All that the feeder does.
 fn put_feeder(alloc: Global, tasks: &mut Vec<Task>) -> Result<(), NoMemory>
-    ensures { OnOk result
-        (map act_of tasks.new.items ≡ map act_of tasks.old.items ++ specs.lines_of_feeder) }
+    ensures { OnOk result (AddsActs tasks.old tasks.new specs.lines_of_feeder) }
 {
     for _draw in 0..DRAWS {
         tasks.push(Task::Draw(ITEMS, fates(alloc)?))?;
@@ -132,6 +130,7 @@ fn put_feeder(alloc: Global, tasks: &mut Vec<Task>) -> Result<(), NoMemory>
 }
 
 /// A reader opens one path.
+#[tactic(auto, unfolding(crate::specs::Generated::open_of))]
 fn opening(alloc: Global, size: u32, reader: u32, turn: u32) -> Result<Task, NoMemory>
     requires least { 1 ≤ size }
     requires most { size ≤ 16 }
@@ -148,9 +147,7 @@ fn put_reader(alloc: Global, tasks: &mut Vec<Task>, size: u32, reader: u32) -> R
     requires least { 1 ≤ size }
     requires most { size ≤ 16 }
     requires reader { reader ≤ 16 }
-    ensures { OnOk result
-        (map act_of tasks.new.items
-        ≡ map act_of tasks.old.items ++ specs.lines_of_reader size reader) }
+    ensures { OnOk result (AddsActs tasks.old tasks.new (specs.lines_of_reader size reader)) }
 {
     for turn in 0..OPENS {
         tasks.push(opening(alloc, size, reader, turn)?)?;
@@ -187,8 +184,7 @@ pub(crate) fn tasks_during(alloc: Global, size: u32) -> Result<Vec<Task>, NoMemo
 fn put_editors(alloc: Global, tasks: &mut Vec<Task>, size: u32) -> Result<(), NoMemory>
     requires { size ≤ 16 }
     ensures { OnOk result
-        (map act_of tasks.new.items
-        ≡ map act_of tasks.old.items ++ flat_map specs.lines_of_editor (specs.numbers size)) }
+        (AddsActs tasks.old tasks.new (flat_map specs.lines_of_editor (specs.numbers size))) }
 {
     for editor in 1..size + 1 {
         put_editor(alloc, tasks, editor)?;
@@ -201,9 +197,8 @@ fn put_readers(alloc: Global, tasks: &mut Vec<Task>, size: u32) -> Result<(), No
     requires least { 1 ≤ size }
     requires most { size ≤ 16 }
     ensures { OnOk result
-        (map act_of tasks.new.items
-        ≡ map act_of tasks.old.items
-        ++ flat_map (specs.lines_of_reader size) (specs.numbers size)) }
+        (AddsActs tasks.old tasks.new
+        (flat_map (specs.lines_of_reader size) (specs.numbers size))) }
 {
     for reader in 1..size + 1 {
         put_reader(alloc, tasks, size, reader)?;

@@ -6,7 +6,7 @@ ghost use Rattle.oc_bytes.specs.Decimals.{decimal_in};
 ghost use Rattle.hex.specs.Hex.{decode_of};
 ghost use Rattle.session_script.specs.Values.{actor_of, path_in, content_in, fates_in, fates_of};
 ghost use Rattle.session_script.specs.Grammar.{word_by};
-ghost use Rattle.session_script.specs.Steps.{words_left, line_cause, or_bad, Takes};
+ghost use Rattle.session_script.specs.Inner.Steps.{words_left, line_cause, or_bad, Takes};
 
 use crate::number::decimal;
 use crate::script::LineCause;

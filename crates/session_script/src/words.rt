@@ -1,7 +1,7 @@
 //! A line's words, taken from the left, and why a line is refused.
 ghost use Rattle.std.specs.Prelude.{◌≡◌, ◌∷◌, [], MatchOption, OnOk, IfErr, length, ◌<◌, position, option_map};
 ghost use Rattle.session_script.specs.Grammar.{is_space, words_in};
-ghost use Rattle.session_script.specs.Steps.{words_of_rest};
+ghost use Rattle.session_script.specs.Inner.Steps.{words_of_rest};
 
 use crate::script::LineCause;
 use std::alloc::{AllocError, AllocFailed};
@@ -37,7 +37,7 @@ pub struct Words<'a> {
 }
 
 impl<'a> Words<'a> {
-    ghost use Rattle.session_script.specs.Steps.{words_left, TakesWord};
+    ghost use Rattle.session_script.specs.Inner.Steps.{words_left, TakesWord};
 
     /// All words of a line. Even an empty line has one, the empty word.
     pub fn of(line: &'a [u8]) -> Words<'a>

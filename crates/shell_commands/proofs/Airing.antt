@@ -31,7 +31,8 @@ use Rattle.folder_playout.specs.declared.playing.AirFault.{AirFault}
 use Rattle.folder_playout.specs.declared.playing.AirFault.TheVariants as airs
 use Rattle.receiver_commands.specs.Over.{Over, over, sink_over}
 use Rattle.shell_commands.specs.Publishing.{new_carousel, accepted_tree, tree_by, tree_of_folder}
-use Rattle.shell_commands.specs.Air.{AiredPart, AiredNothing, EndsAir, IsPublishedIfKnown, StaysOnAir, WereRead, air_status}
+use Rattle.shell_commands.specs.Air.{AiredPart, AiredNothing, EndsAir, IsPublishedIfKnown, StaysOnAir, WereRead}
+use Rattle.shell_commands.specs.Inner.Air.{air_status}
 use Rattle.receiver_commands.proofs.CallerLemmas.{writes_all, writes_prefix}
 
 -- ---- the tree of a known folder

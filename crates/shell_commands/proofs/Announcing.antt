@@ -16,7 +16,7 @@ use Rattle.shell_streams.specs.Sending.{OutputState, Puts, HasPut}
 use Rattle.shell_streams.specs.declared.output.OutputFault.{OutputFault}
 use Rattle.shell_streams.proofs.CallerLemmas.{puts_as}
 use Rattle.receiver_commands.specs.Over.{Over, sink_over}
-use Rattle.shell_commands.specs.Cycles.{IsOfFolder}
+use Rattle.shell_commands.specs.Inner.Cycles.{IsOfFolder}
 use Rattle.shell_commands.specs.Announced.{Senders, senders_start, cycle_sent, after_cycle, cycles_sent, after_cycles, published_psi}
 use Rattle.shell_commands.specs.PublishPsi.{PublishesPsi}
 use Rattle.receiver_commands.specs.Statuses.{output_status}

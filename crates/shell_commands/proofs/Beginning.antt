@@ -2,11 +2,12 @@
 use Rattle.std.proofs.Common.{◌≡◌, ℕ, zero, suc, ◌+◌, ◌<◌, ◌≤◌, Bool, true, false, ◌&&◌, nat_le, List, [], ◌∷◌, ◌++◌, length, take, drop, refl, sym, ap, subst, ◌∙◌, arith, length-append}
 use Rattle.std.proofs.lemmas.Bool.{and_parts, and_from, cond-true, cond-false, leb-true, le-leb}
 use Rattle.std.proofs.lemmas.List.{get_or_append_left, take-append-le, drop-append-le, take-append-drop, take-take}
-use Rattle.oc_bytes.specs.Lengths.{section_length}
+use Rattle.carousel_profile.specs.declared.TheConstants.{PACKET_LENGTH}
+use Rattle.oc_bytes.specs.Numbers.{section_length}
 use Rattle.carousel_world.specs.Receptions.{label_after, GoesOn, LabelsNeverFall}
 use Rattle.shell_streams.specs.Cuts.{Bytes, back_to_back_in, back_to_back}
 use Rattle.shell_streams.specs.Packets.{packets_in, packets_of, candidates_of}
-use Rattle.shell_streams.specs.Carriers.{candidates_in}
+use Rattle.shell_streams.specs.Carriers.{sections_by}
 use Rattle.shell_streams.specs.declared.carrier.Carrier.{Carrier}
 use Rattle.shell_streams.specs.declared.carrier.Carrier.TheVariants as carriers
 use Rattle.section_stream.specs.Cuts.{candidates}
@@ -28,18 +29,18 @@ piece_begins whole front later last piece w f b = (b.0, w ∙ ap (λ xs. piece �
 packets_begin_in : (n m : ℕ) (front rest : Bytes) → n ≤ m → Begins (packets_in m (front ++ rest)) (packets_in n front)
 packets_begin_in zero m front rest h = nothing_begins (packets_in m (front ++ rest)) [] refl
 packets_begin_in (suc n) zero front rest h = absurd (omega (arith, h))
-packets_begin_in (suc n) (suc m) front rest h = by (nat_le 188 (length front)) refl (packets_begin_in n m (drop 188 front) rest (omega (arith, h)))
+packets_begin_in (suc n) (suc m) front rest h = by (nat_le PACKET_LENGTH (length front)) refl (packets_begin_in n m (drop PACKET_LENGTH front) rest (omega (arith, h)))
   where
-    by : (b : Bool) → nat_le 188 (length front) ≡ b → Begins (packets_in m (drop 188 front ++ rest)) (packets_in n (drop 188 front)) → Begins (packets_in (suc m) (front ++ rest)) (packets_in (suc n) front)
-    by false e later = nothing_begins _ _ (cond-false _ (take 188 front ∷ packets_in n (drop 188 front)) [] e)
+    by : (b : Bool) → nat_le PACKET_LENGTH (length front) ≡ b → Begins (packets_in m (drop PACKET_LENGTH front ++ rest)) (packets_in n (drop PACKET_LENGTH front)) → Begins (packets_in (suc m) (front ++ rest)) (packets_in (suc n) front)
+    by false e later = nothing_begins _ _ (cond-false _ (take PACKET_LENGTH front ∷ packets_in n (drop PACKET_LENGTH front)) [] e)
     by true e later =
-        let long : 188 ≤ length front = leb-true 188 (length front) e in
-        let whole : nat_le 188 (length (front ++ rest)) ≡ true = le-leb 188 (length (front ++ rest)) (omega (arith, long, length-append front rest)) in
-        piece_begins _ _ _ _ (take 188 front)
-        (cond-true _ (take 188 (front ++ rest) ∷ packets_in m (drop 188 (front ++ rest))) [] whole
-        ∙ ap (λ p. p ∷ packets_in m (drop 188 (front ++ rest))) (take-append-le 188 front rest long)
-        ∙ ap (λ bs. take 188 front ∷ packets_in m bs) (drop-append-le 188 front rest long))
-        (cond-true _ (take 188 front ∷ packets_in n (drop 188 front)) [] e) later
+        let long : PACKET_LENGTH ≤ length front = leb-true PACKET_LENGTH (length front) e in
+        let whole : nat_le PACKET_LENGTH (length (front ++ rest)) ≡ true = le-leb PACKET_LENGTH (length (front ++ rest)) (omega (arith, long, length-append front rest)) in
+        piece_begins _ _ _ _ (take PACKET_LENGTH front)
+        (cond-true _ (take PACKET_LENGTH (front ++ rest) ∷ packets_in m (drop PACKET_LENGTH (front ++ rest))) [] whole
+        ∙ ap (λ p. p ∷ packets_in m (drop PACKET_LENGTH (front ++ rest))) (take-append-le PACKET_LENGTH front rest long)
+        ∙ ap (λ bs. take PACKET_LENGTH front ∷ packets_in m bs) (drop-append-le PACKET_LENGTH front rest long))
+        (cond-true _ (take PACKET_LENGTH front ∷ packets_in n (drop PACKET_LENGTH front)) [] e) later
 
 packets_begin : (front rest : Bytes) → Begins (packets_of (front ++ rest)) (packets_of front)
 packets_begin front rest = packets_begin_in (length front) (length (front ++ rest)) front rest (omega (arith, length-append front rest))
@@ -94,7 +95,7 @@ heard_on : LabelsNeverFall → (sections : List Bytes) (m n : ℕ) → m ≤ n �
 heard_on law sections m n h =
     subst (λ ss. GoesOn (label_after (take m sections)) (label_after ss)) (split_at sections m n h) (law.sections (take m sections) (drop m (take n sections)))
 
-read_on : LabelsNeverFall → (carrier : Carrier) (front rest : Bytes) → GoesOn (label_after (candidates_in carrier front)) (label_after (candidates_in carrier (front ++ rest)))
+read_on : LabelsNeverFall → (carrier : Carrier) (front rest : Bytes) → GoesOn (label_after ((sections_by carrier).standing_in front)) (label_after ((sections_by carrier).standing_in (front ++ rest)))
 read_on law (carriers.Sections most) front rest =
     let more = sections_begin front rest in
     subst (λ ss. GoesOn (label_after (back_to_back front)) (label_after ss)) (sym more.1) (law.sections (back_to_back front) more.0)
@@ -104,7 +105,7 @@ read_on law (carriers.Packets pid) front rest =
 
 pub falls_never : LabelsNeverFall → (carrier : Carrier) (input : Bytes) → NeverFalls carrier input
 falls_never law carrier input = record {
-  heard = heard_on law (candidates_in carrier input);
-  read = λ m n h. subst (λ bytes. GoesOn (label_after (candidates_in carrier (take m input))) (label_after (candidates_in carrier bytes)))
+  heard = heard_on law ((sections_by carrier).standing_in input);
+  read = λ m n h. subst (λ bytes. GoesOn (label_after ((sections_by carrier).standing_in (take m input))) (label_after ((sections_by carrier).standing_in bytes)))
       (split_at input m n h) (read_on law carrier (take m input) (drop m (take n input)));
 }

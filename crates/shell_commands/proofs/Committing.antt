@@ -37,7 +37,7 @@ use Rattle.receiver_commands.specs.Over.{Over, sink_over, Failed, IsUntouched}
 use Rattle.shell_commands.specs.Publishing.{new_carousel, first_outcome, unless_refused, end_by, publish_end, accepted_tree, tree_by}
 use Rattle.shell_commands.specs.Publish.{IsTreeOf, EndsPublish, NeedsFolder, Sends, Publishes}
 use Rattle.shell_commands.specs.Announced.{one_cycle}
-use Rattle.shell_commands.specs.Cycles.{group_bytes, IsOfFolder, Refused}
+use Rattle.shell_commands.specs.Inner.Cycles.{group_bytes, IsOfFolder, Refused}
 use Rattle.receiver_commands.specs.Statuses.{output_status, walk_status, commit_status}
 use Rattle.receiver_commands.proofs.CallerLemmas.{writes_all, writes_prefix}
 use Rattle.receiver_commands.specs.declared.status.Status.{Status}

@@ -11,15 +11,17 @@ use Rattle.shell_words.specs.Complaints.{complaint_line}
 use Rattle.shell_words.specs.declared.words.WordsFault.{WordsFault}
 use Rattle.shell_words.specs.declared.words.WordsFault.TheVariants as word_faults
 use Rattle.shell_streams.specs.Cuts.{Bytes}
-use Rattle.shell_streams.specs.Held.{IsRear}
+use Rattle.shell_streams.specs.Packets.{IsRear}
 use Rattle.shell_streams.specs.Carriers.{sections_by, all_packets}
 use Rattle.shell_streams.specs.declared.carrier.Carrier.{Carrier}
 use Rattle.shell_streams.specs.declared.carrier.Carrier.TheVariants as carriers
 use Rattle.shell_streams.proofs.CallerLemmas.{told_same}
+use Rattle.tuner_core.specs.LookBack.{answer_after}
 use Rattle.receiver_commands.specs.Over.{Over, over, IsUntouched, TakesPrefix, WritesPrefix, Appends}
 use Rattle.receiver_commands.specs.AsRead.{AreFirst}
 use Rattle.receiver_commands.specs.Record.{Records}
-use Rattle.receiver_commands.specs.Open.{Question, Answers, answers_to, asks_paths, asks_all}
+use Rattle.receiver_commands.specs.Replies.{Reply}
+use Rattle.receiver_commands.specs.Open.{AllAnswers, Answers, reply_by, asks_paths, asks_all}
 use Rattle.shell_commands.specs.Air.{WereRead}
 use Rattle.receiver_commands.specs.Watch.{Watches}
 use Rattle.receiver_commands.specs.Find.{place_of}
@@ -34,8 +36,8 @@ use Rattle.shell_commands.proofs.Planning.{plan_nothing}
 pub takes_nothing : (source : Over Bytes) → IsUntouched source → TakesPrefix source
 takes_nothing source e = let P : Option Bytes → Type 0 = λ a. Known source.before a IsRear in subst P (sym e) (told_same source.before (λ x. record { taken = []; whole = refl }))
 
-answers_nothing : (carrier : Carrier) (question : Question) (source sink : Over Bytes) → IsUntouched source → IsUntouched sink → Answers carrier question status.NoMemory source sink
-answers_nothing carrier question source sink e f = replies_nothing (sections_by carrier) (answers_to question) source sink (takes_nothing source e) f
+answers_nothing : (carrier : Carrier) (question : Reply AllAnswers) (source sink : Over Bytes) → IsUntouched source → IsUntouched sink → Answers carrier question status.NoMemory source sink
+answers_nothing carrier question source sink e f = replies_nothing (sections_by carrier) (reply_by answer_after question) source sink (takes_nothing source e) f
 
 first_untouched : (pid : ℕ) (source : Over Bytes) → IsUntouched source → Known source.before source.after (AreFirst pid [])
 first_untouched pid source e = let P : Option Bytes → Type 0 = λ a. Known source.before a (AreFirst pid []) in subst P (sym e) (first_none pid source.before)
@@ -43,7 +45,7 @@ first_untouched pid source e = let P : Option Bytes → Type 0 = λ a. Known sou
 prefix_untouched : (sink : Over Bytes) (text : Bytes) → IsUntouched sink → WritesPrefix sink text
 prefix_untouched sink text f =
     let Q : Option Bytes → Type 0 = λ a. Known sink.before a (Appends text) in
-    subst Q (sym f) (told_same sink.before (λ x. record { part = []; after_is = sym (append-nil x); prefix = record { rest = text; whole_is = refl } }))
+    subst Q (sym f) (told_same sink.before (λ x. record { part = []; rest = text; output_is = refl; after_is = sym (append-nil x) }))
 
 nothing_written : (sink : Over Bytes) → IsUntouched sink → WritesPrefix sink []
 nothing_written sink f = prefix_untouched sink [] f
@@ -79,7 +81,7 @@ memory_promises weights prefixes (commands.Big n) source sink folders store refu
 memory_promises weights prefixes (commands.Find carousel) source sink folders store refused told e f k none =
     replies_nothing all_packets (place_of carousel) source sink (takes_nothing source e) f
 memory_promises weights prefixes (commands.OpenId carousel paths) source sink folders store refused told e f k none =
-    replies_nothing (sections_by_id carousel) (answers_to (asks_paths paths)) source sink (takes_nothing source e) f
+    replies_nothing (sections_by_id carousel) (reply_by answer_after (asks_paths paths)) source sink (takes_nothing source e) f
 memory_promises weights prefixes (commands.PublishPsi folder carousel cycles) source sink folders store refused told e f k none =
     record { unread = e; keeps = record { ends = inl f; needs = λ t h n. inr refl } }
 memory_promises weights prefixes (commands.PublishOn pid folder carousel cycles) source sink folders store refused told e f k none =

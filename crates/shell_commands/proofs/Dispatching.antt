@@ -11,7 +11,8 @@ use Rattle.shell_streams.specs.Cuts.{Bytes}
 use Rattle.receiver_commands.specs.Over.{Over, IsUntouched}
 use Rattle.receiver_commands.specs.declared.status.Status.{Status}
 use Rattle.receiver_commands.specs.declared.status.Status.TheVariants as status
-use Rattle.shell_commands.specs.Promises.{Promises, PromisesOther, is_of_broadcaster}
+use Rattle.shell_commands.specs.Promises.{Promises}
+use Rattle.shell_commands.specs.Inner.Promises.{PromisesOther, is_of_broadcaster}
 
 -- a command that is none of those of a broadcaster
 pub of_none : (command : Command)

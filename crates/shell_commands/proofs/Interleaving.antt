@@ -3,10 +3,12 @@ use Rattle.std.proofs.Common.{◌≡◌, ℕ, zero, suc, ◌+◌, ◌*◌, ◌/�
 use Rattle.std.specs.List.{filter_map, enumerate_from, cons_option}
 use Rattle.std.proofs.lemmas.List.{map-append}
 use Rattle.std.proofs.lemmas.List.Elements.{filter_map-append}
-use Rattle.ts_packet.specs.Packets.{Fields, parse_packet, control, payload_of, packet_bytes, bit_of}
+use Rattle.ts_packet.specs.Packets.{Fields, parse_packet, control, packet_bytes, bit_of}
+use Rattle.carousel_profile.specs.declared.TheConstants.{PACKET_LENGTH}
 use Rattle.ts_packet.specs.declared.PacketFault.{PacketFault}
 use Rattle.ts_packet.specs.declared.PacketFault.TheVariants.{NoSync, Errored, Scrambled, Reserved, BadField}
-use Rattle.section_stream.specs.Cuts.{Bytes, Received, Cut, kept_of, payloads_in, is_repeat, without_repeats_of, without_repeats, pointer_of, pointer_fits, going_on, whole_len, opened_in, cuts_at, cuts_of, candidates}
+use Rattle.std.specs.Str.{bytes_eq}
+use Rattle.section_stream.specs.Cuts.{Bytes, Received, Cut, kept_of, payloads_in, without_repeats_of, without_repeats, pointer_of, pointer_fits, going_on, whole_len, opened_in, cuts_at, cuts_of, candidates}
 use Rattle.section_stream.specs.Packing.{MuxState, end_packets, with_stuffing, last_of, number_packets, packets_of, past, put}
 use Rattle.psi_tables.specs.Written.{AnnouncerState, pat_spelling, pmt_spelling, packets_of_table, announcer_packets}
 
@@ -39,7 +41,7 @@ received_bare pid n (p ∷ ps) = by (parse_packet p) (received_bare pid (n + 1) 
 
 repeats_bare : (a : Received) (bs : List Received) → without_repeats_of (bare a) (map bare bs) ≡ map bare (without_repeats_of a bs)
 repeats_bare a [] = refl
-repeats_bare a (b ∷ bs) = go (is_repeat a b) (repeats_bare b bs) where
+repeats_bare a (b ∷ bs) = go ((a.counter == b.counter) && bytes_eq a.payload b.payload) (repeats_bare b bs) where
   go : (t : Bool) → without_repeats_of (bare b) (map bare bs) ≡ map bare (without_repeats_of b bs)
       → (if t then without_repeats_of (bare b) (map bare bs) else bare b ∷ without_repeats_of (bare b) (map bare bs)) ≡ map bare (if t then without_repeats_of b bs else b ∷ without_repeats_of b bs)
   go true h = h
@@ -78,8 +80,8 @@ at_bare p ps = go (p.start && pointer_fits p) where
   here : Bytes
   here = drop (1 + pointer_of p) p.payload
 
-  go : (t : Bool) → bytes_of (cond t (opened_in 188 p.number here (going_on p.counter ps)) []) ≡ bytes_of (cond t (opened_in 188 0 here (going_on p.counter (map bare ps))) [])
-  go true = opened_any 188 p.number 0 here (going_on p.counter ps) ∙ ap (λ (later : Bytes). bytes_of (opened_in 188 0 here later)) (going_bare p.counter ps)
+  go : (t : Bool) → bytes_of (cond t (opened_in PACKET_LENGTH p.number here (going_on p.counter ps)) []) ≡ bytes_of (cond t (opened_in PACKET_LENGTH 0 here (going_on p.counter (map bare ps))) [])
+  go true = opened_any PACKET_LENGTH p.number 0 here (going_on p.counter ps) ∙ ap (λ (later : Bytes). bytes_of (opened_in PACKET_LENGTH 0 here later)) (going_bare p.counter ps)
   go false = refl
 
 cuts_bare : (rs : List Received) → bytes_of (cuts_of rs) ≡ bytes_of (cuts_of (map bare rs))
@@ -106,7 +108,7 @@ other_pid : (pid : ℕ) (bytes : Bytes) → ((slice_index bytes 1 % 32 * 256 + s
 other_pid pid bytes e =
     go (not (slice_index bytes 0 == 0x47)) (slice_index bytes 1 / 128 == 1) (not (slice_index bytes 3 / 64 == 0)) (control bytes == 0) ((control bytes == 3) && nat_lt 182 (slice_index bytes 4)) where
       fields : Fields
-      fields = record { pid = slice_index bytes 1 % 32 * 256 + slice_index bytes 2; start = slice_index bytes 1 / 64 % 2 == 1; counter = slice_index bytes 3 % 16; payload = payload_of bytes }
+      fields = record { pid = slice_index bytes 1 % 32 * 256 + slice_index bytes 2; start = slice_index bytes 1 / 64 % 2 == 1; counter = slice_index bytes 3 % 16; payload = if control bytes == 1 then drop 4 bytes else (if control bytes == 3 then drop (5 + slice_index bytes 4) bytes else []) }
 
       go : (a b c d f : Bool)
           → kept_of pid 0 (if a then Err NoSync else (if b then Err Errored else (if c then Err Scrambled else (if d then Err Reserved else (if f then Err BadField else Ok fields))))) ≡ None

@@ -1,6 +1,7 @@
 -- The packet at which a carousel is found, and what is heard from there on.
 use Rattle.std.proofs.Common.{◌≡◌, ℕ, zero, suc, ◌*◌, ◌<◌, ◌≤◌, ◌⊎◌, inl, inr, List, [], length, take, drop, Option, Some, None, refl, sym, ap, ◌∙◌, arith}
 use Rattle.std.proofs.lemmas.Bool.{cases_lt}
+use Rattle.carousel_profile.specs.declared.TheConstants.{PACKET_LENGTH}
 use Rattle.path_tree.specs.Paths.{PathNames}
 use Rattle.path_resolver.specs.declared.answer.Answer.TheVariants as answers
 use Rattle.section_stream.specs.Cuts.{candidates}
@@ -48,7 +49,7 @@ first_within carousel packets (suc n) pid (suc k) h le = by (cases_lt n k) (firs
 -- ---- what is heard
 
 heard_behind : (carousel : ℕ) (input : Bytes) (n pid : ℕ) → IsFirst carousel (packets_of input) n pid
-    → sections_among carousel (packets_of input) ≡ candidates_of pid (drop (188 * n) input)
+    → sections_among carousel (packets_of input) ≡ candidates_of pid (drop (PACKET_LENGTH * n) input)
 heard_behind carousel input n pid first =
     let packets = packets_of input in
     ap (sections_after packets) (first_within carousel packets n pid (length packets) first first.within)

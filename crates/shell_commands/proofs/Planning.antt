@@ -20,7 +20,8 @@ use Rattle.shell_streams.specs.declared.output.OutputFault.{OutputFault}
 use Rattle.shell_streams.specs.declared.output.OutputFault.TheVariants as outputs
 use Rattle.receiver_commands.specs.Over.{Over, sink_over, Failed, IsUntouched}
 use Rattle.shell_commands.specs.Publishing.{first_outcome, unless_refused, end_by, publish_end}
-use Rattle.shell_commands.specs.Plan.{EndsPlan, EndsAlike, TellsPlan, plan_status}
+use Rattle.shell_commands.specs.Plan.{EndsPlan, EndsAlike, TellsPlan}
+use Rattle.shell_commands.specs.Inner.Plan.{plan_status}
 use Rattle.receiver_commands.specs.declared.status.Status.{Status}
 use Rattle.receiver_commands.specs.declared.status.Status.TheVariants as status
 use Rattle.shell_commands.proofs.Committing.{tree_accepted}

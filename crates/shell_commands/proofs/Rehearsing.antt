@@ -12,7 +12,7 @@ use Rattle.rehearsal.specs.Lines.{events_of}
 use Rattle.rehearsal.specs.Reports.{report_of}
 use Rattle.rehearsal.specs.Rehearsals as runs
 use Rattle.shell_streams.specs.Cuts.{Bytes}
-use Rattle.shell_streams.specs.Held.{Stopped, is_longer}
+use Rattle.shell_streams.specs.Packets.{Stopped, is_longer}
 use Rattle.shell_streams.specs.Sending.{OutputState}
 use Rattle.shell_streams.specs.declared.input.InputFault.{InputFault}
 use Rattle.shell_streams.specs.declared.input.InputFault.TheVariants as inputs

@@ -1,6 +1,6 @@
 -- What `air PID FOLDER CAROUSEL CYCLES` promises: whole cycles of what a folder holds are written as packets of one PID. The folder is read before
 -- each of them, and another tree than that on the air is the carousel's next generation.
-use Rattle.std.specs.Prelude.{◌≡◌, ◌≤◌, ◌⊎◌, ℕ, ◌+◌, List, [], ◌∷◌, length, Option, Some, Result, Ok, Err}
+use Rattle.std.specs.Prelude.{◌≡◌, ◌≤◌, ◌⊎◌, ℕ, ◌+◌, List, [], ◌∷◌, length, Option, Some}
 use Rattle.path_tree.specs.Trees.{Tree}
 use Rattle.dsi_dii.specs.declared.TheConstants.{LAST_GENERATION}
 use Rattle.generation_catalogue.specs.declared.entry.Refusal.TheVariants as refusals
@@ -12,14 +12,8 @@ use Rattle.shell_streams.specs.Cuts.{Bytes}
 use Rattle.folder_playout.specs.Readings.{AreRead, Reading, Found, Refused, Failed as Unreadable}
 use Rattle.folder_playout.specs.Notices.{Notice}
 use Rattle.folder_playout.specs.Playing.{Sent, IsFull, IsLawful, ToldFront, notices_of, sent_bytes}
-use Rattle.folder_playout.specs.declared.reading.Unread.{Unread}
-use Rattle.folder_playout.specs.declared.reading.Unread.TheVariants as unread
-use Rattle.folder_playout.specs.declared.playing.AirFault.{AirFault}
-use Rattle.folder_playout.specs.declared.playing.AirFault.TheVariants as airs
-use Rattle.receiver_commands.specs.Over.{Over, IsUntouched, WritesAll, WritesPrefix}
-use Rattle.receiver_commands.specs.Ends.{EndsWriting}
+use Rattle.receiver_commands.specs.Over.{Over, IsUntouched, WritesAll, WritesPrefix, EndsWriting}
 use Rattle.shell_commands.specs.Publishing.{tree_of_folder}
-use Rattle.receiver_commands.specs.Statuses.{output_status}
 use Rattle.receiver_commands.specs.declared.status.Status.{Status}
 use Rattle.receiver_commands.specs.declared.status.Status.TheVariants as status
 
@@ -99,19 +93,3 @@ EndsAir sent folder cycles Told sink folders =
 -- `Told` is what holds of the notices that were given.
 pub record StaysOnAir (pid : ℕ) (folder : Bytes) (carousel : ℕ) (weights : List ℕ) (cycles : ℕ) (s : Status) (sink : Over Bytes) (folders : Over FolderTree) (Told : List Notice → Type 0) : Type 0 where
   pub ends : EndsAir (record { pid = pid; carousel = carousel; weights = weights }) folder cycles Told sink folders s
-
--- ---- the status of a playout
-
-abbrev pub unread_status : Unread → Status
-unread_status (unread.Failed path) = status.FolderFault
-unread_status (unread.Refused fault path) = status.TreeRefused fault
-unread_status unread.NoMemory = status.NoMemory
-
-abbrev pub fault_status : AirFault → Status
-fault_status (airs.Unread fault) = unread_status fault
-fault_status airs.SeasonFull = status.TreeRefused season_full
-fault_status (airs.Output fault) = output_status fault
-
-abbrev pub air_status : Result (Unit {0}) AirFault → Status
-air_status (Ok done) = status.Done
-air_status (Err fault) = fault_status fault

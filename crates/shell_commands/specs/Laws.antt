@@ -3,6 +3,7 @@
 -- written and answered.
 use Rattle.std.specs.Prelude.{◌≡◌, ℕ, ◌*◌, ◌<◌, ◌≤◌, true, List, [], ◌∷◌, length, take, drop, Some}
 use Rattle.std.specs.List.{All, Contains}
+use Rattle.carousel_profile.specs.declared.TheConstants.{PACKET_LENGTH}
 use Rattle.path_tree.specs.Paths.{PathNames}
 use Rattle.path_resolver.specs.declared.answer.Answer.TheVariants as answers
 use Rattle.tuner_core.specs.LookBack.{answer_after}
@@ -65,7 +66,7 @@ IsNeverFound carousel packets =
 -- packets; where none is found it hears nothing.
 pub record HeardById (carousel : ℕ) (input : Bytes) : Type 0 where
   pub behind : (n pid : ℕ) → IsFirst carousel (packets_of input) n pid
-      → sections_among carousel (packets_of input) ≡ candidates_of pid (drop (188 * n) input)
+      → sections_among carousel (packets_of input) ≡ candidates_of pid (drop (PACKET_LENGTH * n) input)
   pub nowhere : (p : PathNames) → IsNeverFound carousel (packets_of input)
       → answer_after (sections_among carousel (packets_of input)) p ≡ answers.NoCarousel
 

@@ -9,4 +9,4 @@ pub mod Promises
 pub mod Reception
 pub mod Laws
 pub mod Limits
-pub mod Cycles
+pub mod Inner

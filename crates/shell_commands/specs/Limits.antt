@@ -1,14 +1,15 @@
 -- The limits of the commands and of what stands below them, each as the number that it is. A crate
 -- names its own limits by constants, and the other definitions take them from there.
 use Rattle.std.specs.Prelude.{◌≡◌}
+use Rattle.carousel_profile.specs.declared.TheConstants.{BLOCK_SIZE, CAROUSEL_PID, MOST_PID}
 use Rattle.path_tree.specs.declared.text.TheConstants.{MOST_NAMES}
 use Rattle.path_tree.specs.declared.tree.TheConstants.{MOST_CONTENT}
 use Rattle.module_groups.specs.declared.TheConstants.{GROUP_SIZE, MOST_GROUPS, GREATEST_ID}
 use Rattle.ddb_block.specs.declared.TheConstants.{MOST_BLOCK_SIZE, MOST_BLOCKS}
-use Rattle.dsi_dii.specs.declared.TheConstants.{MOST_MODULES, BLOCK_SIZE}
-use Rattle.dsi_dii.specs.declared.TheConstants.{MOST_TOTAL_SIZE, LAST_GENERATION}
+use Rattle.dsi_dii.specs.declared.TheConstants.{MOST_MODULES, MOST_TOTAL_SIZE, LAST_GENERATION}
 use Rattle.biop_object.specs.declared.written.TheConstants.{MOST_FOLDER_SIZE}
 use Rattle.block_assembler.specs.declared.TheConstants.{MOST_MODULE_SIZE}
+use Rattle.tuner_core.specs.declared.turns.TheConstants.{MOST_HELD}
 use Rattle.cycle_planner.specs.declared.weigh.TheConstants.{GREATEST_WEIGHT}
 use Rattle.cycle_planner.specs.declared.TheConstants.{MOST_DRAWN}
 use Rattle.generation.specs.declared.limit.TheConstants.{MOST_OBJECTS}
@@ -23,14 +24,15 @@ use Rattle.shell_words.specs.declared.parsing.TheConstants.{MOST_CYCLES, MOST_AI
 use Rattle.shell_words.specs.declared.parsing.TheConstants.{MOST_BITRATE, MOST_BIG}
 use Rattle.shell_words.specs.declared.table.TheConstants.{MOST_MOUNT_NAME}
 use Rattle.shell_words.specs.declared.values.TheConstants as words
-use Rattle.receiver_commands.specs.declared.assemble.TheConstants.{MOST_ASSEMBLED}
+use Rattle.receiver_commands.specs.declared.assemble.TheConstants.{MOST_ASSEMBLED, ASSEMBLED_BLOCK}
 use Rattle.shell_commands.specs.declared.plain.TheConstants.{MOST_OPENED}
 use Rattle.shell_commands.specs.declared.rehearse.TheConstants.{MOST_SCRIPT_BYTES}
-use Rattle.shell_commands.specs.declared.publish.TheConstants.{PID}
 
 pub record Limits : Type 0 where
-  -- the input of a command: sections that are assembled and opened, packets, and bytes of a script
+  -- the input of a command: sections that are assembled, of blocks of so many bytes, sections that
+  -- are opened, packets, and bytes of a script
   pub assembled : MOST_ASSEMBLED ≡ 65536
+  pub assembled_block : ASSEMBLED_BLOCK ≡ 4066
   pub opened : MOST_OPENED ≡ 16777216
   pub packets : MOST_PACKETS ≡ 16777216
   pub script_bytes : MOST_SCRIPT_BYTES ≡ 16777216
@@ -43,12 +45,12 @@ pub record Limits : Type 0 where
   pub watched_in_words : words.MOST_WATCHED ≡ 1024
   pub name_in_words : MOST_MOUNT_NAME ≡ 32
   -- the PID on which `publish` sends
-  pub pid : PID ≡ 256
+  pub pid : CAROUSEL_PID ≡ 256
   -- what is listed, mounted and watched
   pub listed : MOST_LISTED ≡ 65536
   pub mounts : tables.MOST_MOUNTS ≡ 16
   pub mount_name : tables.MOST_NAME ≡ 32
-  pub mount_pid : tables.MOST_PID ≡ 8190
+  pub mount_pid : MOST_PID ≡ 8190
   pub watched : desks.MOST_WATCHED ≡ 1024
   pub filters : desks.MOST_FILTERS ≡ 64
   -- scripts
@@ -73,6 +75,8 @@ pub record Limits : Type 0 where
   pub block_size : BLOCK_SIZE ≡ 4066
   pub most_block_size : MOST_BLOCK_SIZE ≡ 4066
   pub blocks : MOST_BLOCKS ≡ 65536
+  -- the DIIs that a receiver holds together
+  pub held_diis : MOST_HELD ≡ 16
   -- the order of a cycle
   pub weight : GREATEST_WEIGHT ≡ 8
   pub drawn : MOST_DRAWN ≡ 1048576

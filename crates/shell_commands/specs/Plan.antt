@@ -1,16 +1,13 @@
 -- What `plan FOLDER CAROUSEL BITRATE` promises: what `publish` would send of the folder is told, or why it can't be published.
-use Rattle.std.specs.Prelude.{◌≡◌, ◌⊎◌, ℕ, List, Option, Some, Result, Ok, Err}
+use Rattle.std.specs.Prelude.{◌≡◌, ◌⊎◌, ℕ, List, Option, Some}
 use Rattle.folder_store.specs.Folders.{FolderTree}
 use Rattle.folder_store.specs.declared.reading.TreeFault.{TreeFault}
 use Rattle.publication_plan.specs.Plans.{IsTextOf}
 use Rattle.publication_plan.specs.declared.planning.PlanEnd.{PlanEnd}
 use Rattle.publication_plan.specs.declared.planning.PlanEnd.TheVariants as planned
 use Rattle.shell_streams.specs.Cuts.{Bytes}
-use Rattle.shell_streams.specs.declared.output.OutputFault.{OutputFault}
-use Rattle.receiver_commands.specs.Over.{Over, Failed, IsUntouched, WritesAll, WritesPrefix}
-use Rattle.receiver_commands.specs.Ends.{EndsWriting}
+use Rattle.receiver_commands.specs.Over.{Over, Failed, IsUntouched, WritesAll, WritesPrefix, EndsWriting}
 use Rattle.shell_commands.specs.Publishing.{publish_end}
-use Rattle.receiver_commands.specs.Statuses.{output_status}
 use Rattle.receiver_commands.specs.declared.status.Status.{Status}
 use Rattle.receiver_commands.specs.declared.status.Status.TheVariants as status
 
@@ -50,11 +47,3 @@ EndsAlike folder carousel t _ = Unit {0}
 pub record TellsPlan (folder : Bytes) (carousel : ℕ) (weights : List ℕ) (bitrate : ℕ) (s : Status) (sink : Over Bytes) (folders : Over FolderTree) (refused : Option Bytes) : Type 0 where
   pub ends : EndsPlan folder carousel weights bitrate sink folders refused s
   pub alike : (t : FolderTree) → folders.before ≡ Some t → EndsAlike folder carousel t s
-
--- ---- the status of a plan
-
-abbrev pub plan_status : Result PlanEnd OutputFault → Status
-plan_status (Ok planned.Published) = status.Done
-plan_status (Ok planned.Refused) = status.NotAll
-plan_status (Ok planned.Unreadable) = status.FolderFault
-plan_status (Err fault) = output_status fault

@@ -1,6 +1,6 @@
 -- What each command promises. A page of its own says it of each. `refused` is the path text that the
 -- folders refused last, and `told` what holds of the notices that were given.
-use Rattle.std.specs.Prelude.{ℕ, Bool, true, false, List, [], Option, None, Result, Ok, Err}
+use Rattle.std.specs.Prelude.{ℕ, Bool, true, false, List, Option, Result, Ok, Err}
 use Rattle.path_tree.specs.Paths.{PathNames}
 use Rattle.folder_playout.specs.Notices.{Notice}
 use Rattle.folder_store.specs.Folders.{FolderTree}
@@ -64,20 +64,6 @@ writes_store _ = false
 abbrev pub gives_notices : Result commands.Named commands.Misfit → Bool
 gives_notices (Ok (commands.Air pid folder carousel cycles)) = true
 gives_notices _ = false
-
--- whether a command is one of a broadcaster: it publishes, tells what it would publish, or rehearses
-abbrev pub is_of_broadcaster : commands.Named → Bool
-is_of_broadcaster (commands.Publish folder carousel cycles) = true
-is_of_broadcaster (commands.PublishOn pid folder carousel cycles) = true
-is_of_broadcaster (commands.PublishPsi folder carousel cycles) = true
-is_of_broadcaster (commands.Air pid folder carousel cycles) = true
-is_of_broadcaster (commands.Plan folder carousel bitrate) = true
-is_of_broadcaster commands.Rehearse = true
-is_of_broadcaster _ = false
-
--- What is promised of any other command: it takes no weights, reads no folder and gives no notice.
-abbrev pub PromisesOther : List PathNames → commands.Named → Status → Over Bytes → Over Bytes → Over FolderTree → Type 0
-PromisesOther prefixes command s source sink store = Promises [] prefixes command s source sink (record { before = None; after = None; faults = 0; faults_after = 0 }) store None (λ notices. Unit {0})
 
 -- what is promised of words, under these weights and with watchers of these prefixes; words that don't fit, and those of a command that
 -- needs threads, are refused

@@ -9,8 +9,7 @@ use Rattle.folder_store.specs.Walk.{HasFiles}
 use Rattle.folder_store.specs.declared.reading.TreeFault.{TreeFault}
 use Rattle.carousel_world.specs.Publishing.{published_bytes}
 use Rattle.shell_streams.specs.Cuts.{Bytes}
-use Rattle.receiver_commands.specs.Over.{Over, Failed, IsUntouched, WritesAll, WritesPrefix}
-use Rattle.receiver_commands.specs.Ends.{EndsWriting}
+use Rattle.receiver_commands.specs.Over.{Over, Failed, IsUntouched, WritesAll, WritesPrefix, EndsWriting}
 use Rattle.shell_commands.specs.Publishing.{publish_end, tree_of_folder}
 use Rattle.receiver_commands.specs.declared.status.Status.{Status}
 use Rattle.receiver_commands.specs.declared.status.Status.TheVariants as status

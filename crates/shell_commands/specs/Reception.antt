@@ -12,10 +12,10 @@ use Rattle.carousel_world.specs.Premises.{AcceptedAreSent, IsHeardOf, IsWhole}
 use Rattle.carousel_world.specs.Headline.{IsNodeAnswer}
 use Rattle.carousel_world.specs.Publishing.{published_bytes, publication, layouts_for, MeetsPublished, MeetsPublishedSections}
 use Rattle.carousel_world.specs.Receptions.{MeetsOnPackets, MeetsOnSections, label_after, GoesOn}
-use Rattle.shell_streams.specs.Cuts.{Bytes}
+use Rattle.shell_streams.specs.Cuts.{Bytes, back_to_back}
 use Rattle.shell_commands.specs.Announced.{published_after}
 use Rattle.shell_streams.specs.Packets.{packets_of, candidates_of}
-use Rattle.shell_streams.specs.Carriers.{candidates_in}
+use Rattle.shell_streams.specs.Carriers.{sections_by}
 use Rattle.shell_streams.specs.declared.carrier.Carrier.{Carrier}
 use Rattle.shell_streams.specs.declared.carrier.Carrier.TheVariants as carriers
 
@@ -31,13 +31,13 @@ is_from (carriers.Packets pid) input = λ b from. IsAscribed b pid (packets_of i
 -- Whatever is heard of a carousel whose tree changes from generation to generation: each answer is the path's lookup in the one
 -- generation of the receiver's label, or names the first module on the walk that isn't whole, or says that no carousel was heard.
 abbrev pub MeetsBroadcasts : Carrier → Bytes → Type 0
-MeetsBroadcasts (carriers.Sections most) input = MeetsOnSections (candidates_in (carriers.Sections most) input)
+MeetsBroadcasts (carriers.Sections most) input = MeetsOnSections (back_to_back input)
 MeetsBroadcasts (carriers.Packets pid) input = MeetsOnPackets pid (packets_of input) (candidates_of pid input)
 
 -- the same of one published tree, where nothing has to be near: whatever of its cycles is heard, each answer is the tree's own lookup, or names the first module on the walk that
 -- isn't whole, or says that no carousel was heard
 abbrev pub MeetsTrees : Carrier → Bytes → Type 0
-MeetsTrees (carriers.Sections most) input = MeetsPublishedSections (candidates_in (carriers.Sections most) input)
+MeetsTrees (carriers.Sections most) input = MeetsPublishedSections (back_to_back input)
 MeetsTrees (carriers.Packets pid) input = MeetsPublished pid (packets_of input) (candidates_of pid input)
 
 -- the answer that is a tree's own lookup
@@ -52,20 +52,20 @@ answer_in t p = node_answer (node_at t p)
 -- after a whole cycle of a generation each answer is the lookup in that generation's tree
 abbrev pub OpensGeneration : Carrier → Bytes → Type 0
 OpensGeneration carrier input = (b : Broadcast) (from : Ascription) (g : ℕ) → NeverBack from
-    → IsHeardOf b (candidates_in carrier input) (is_from carrier input b from) → IsWhole b.carousel b.layouts g (candidates_in carrier input)
-    → answer_after (candidates_in carrier input) ≡ answer_in (tree_at b.trees g)
+    → IsHeardOf b ((sections_by carrier).standing_in input) (is_from carrier input b from) → IsWhole b.carousel b.layouts g ((sections_by carrier).standing_in input)
+    → answer_after ((sections_by carrier).standing_in input) ≡ answer_in (tree_at b.trees g)
 
 -- after a whole cycle of a published tree each answer is the tree's own lookup
 abbrev pub OpensWhole : Carrier → Bytes → Type 0
 OpensWhole carrier input = (carousel : ℕ) (weights : List ℕ) (cycles : ℕ) (t : Tree) (from : Ascription) → NeverBack from → carousel < 4294967296 → IsPublishable t
-    → AcceptedAreSent (publication carousel weights cycles t) (candidates_in carrier input) (is_from carrier input (publication carousel weights cycles t) from)
-    → IsWhole carousel (layouts_for carousel t) 1 (candidates_in carrier input) → answer_after (candidates_in carrier input) ≡ answer_in t
+    → AcceptedAreSent (publication carousel weights cycles t) ((sections_by carrier).standing_in input) (is_from carrier input (publication carousel weights cycles t) from)
+    → IsWhole carousel (layouts_for carousel t) 1 ((sections_by carrier).standing_in input) → answer_after ((sections_by carrier).standing_in input) ≡ answer_in t
 
 -- The generation that is held never falls, whatever is heard: once there is a label, it isn't lower after more of the input. It holds
 -- after each number of the input's sections, and after each beginning of the input, in bytes, as if it had ended there.
 pub record NeverFalls (carrier : Carrier) (input : Bytes) : Type 0 where
-  pub heard : (m n : ℕ) → m ≤ n → GoesOn (label_after (take m (candidates_in carrier input))) (label_after (take n (candidates_in carrier input)))
-  pub read : (m n : ℕ) → m ≤ n → GoesOn (label_after (candidates_in carrier (take m input))) (label_after (candidates_in carrier (take n input)))
+  pub heard : (m n : ℕ) → m ≤ n → GoesOn (label_after (take m ((sections_by carrier).standing_in input))) (label_after (take n ((sections_by carrier).standing_in input)))
+  pub read : (m n : ℕ) → m ≤ n → GoesOn (label_after ((sections_by carrier).standing_in (take m input))) (label_after ((sections_by carrier).standing_in (take n input)))
 
 pub record Reception (carrier : Carrier) (input : Bytes) : Type 0 where
   pub meets : MeetsBroadcasts carrier input

@@ -10,9 +10,8 @@ use Rattle.carousel_world.specs.Promises.{MeetsHeadline}
 use Rattle.rehearsal.specs.Lines.{events_of}
 use Rattle.rehearsal.specs.Reports.{report_of}
 use Rattle.shell_streams.specs.Cuts.{Bytes}
-use Rattle.shell_streams.specs.Held.{AllTaken, is_longer}
-use Rattle.receiver_commands.specs.Over.{Over, IsUntouched, TakesPrefix, WritesAll, WritesPrefix}
-use Rattle.receiver_commands.specs.Ends.{EndsRead}
+use Rattle.shell_streams.specs.Packets.{AllTaken, is_longer}
+use Rattle.receiver_commands.specs.Over.{Over, IsUntouched, TakesPrefix, WritesAll, WritesPrefix, EndsRead}
 use Rattle.receiver_commands.specs.declared.status.Status.{Status}
 use Rattle.receiver_commands.specs.declared.status.Status.TheVariants as status
 use Rattle.shell_commands.specs.declared.rehearse.TheConstants.{MOST_SCRIPT_BYTES}

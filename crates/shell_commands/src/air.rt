@@ -1,7 +1,8 @@
 ghost use Rattle.std.specs.Prelude.{◌≡◌, ◌≤◌, ◌<◌, []};
-ghost use Rattle.shell_streams.specs.Sending.{IsInTime};
-ghost use Rattle.shell_commands.specs.Air.{StaysOnAir, fault_status, unread_status as status_of_unread};
-ghost use Rattle.receiver_commands.specs.Over.{over, sink_over};
+ghost use Rattle.shell_streams.specs.Sending.{IsInTime, IsFlushed};
+ghost use Rattle.shell_commands.specs.Air.{StaysOnAir};
+ghost use Rattle.shell_commands.specs.Inner.Air.{fault_status, unread_status as status_of_unread};
+ghost use Rattle.receiver_commands.specs.Over.{over, out_over};
 
 use cycle_planner::Weigh;
 use dsi_dii::LAST_GENERATION;
@@ -38,13 +39,13 @@ pub fn air<O: Output, F: Folders, N: Notices>(
     folders: &mut F,
     notices: &mut N,
 ) -> Status
-    requires pending { (O.state out.old).pending ≡ [] }
+    requires pending { IsFlushed (O.state out.old) }
     requires in_range { pid < 8192 }
     requires some { 1 ≤ cycles }
     requires untold { N.told notices.old notices.old [] }
     ensures stays { StaysOnAir pid folder.now carousel weigh.now.weights cycles result
-        (sink_over (O.state out.old) (O.state out.new))
-        (over F.tree F.faults folders.old folders.new) (N.told notices.old notices.new) }
+        (out_over O.state out.old out.new) (over F.tree F.faults folders.old folders.new)
+        (N.told notices.old notices.new) }
     ensures same { (O.state out.new).name ≡ (O.state out.old).name }
     ensures in_time { IsInTime (O.state out.old) (O.state out.new) }
 {

@@ -30,4 +30,7 @@ pub fn receptions()
 /// The limits of the commands, and of what stands below them.
 pub fn limits_are_numbers()
     ensures { Limits }
-{}
+{
+    receiver_commands::limits_are_numbers();
+    tuner_core::limits_are_numbers();
+}

@@ -1,15 +1,16 @@
-ghost use Rattle.std.specs.Prelude.{◌≡◌, false, [], map, Ok, IfOk};
-ghost use Rattle.std.specs.String.{string_bytes};
+ghost use Rattle.std.specs.Prelude.{◌≡◌, false, [], Ok, IfOk};
 ghost use Rattle.oc_bytes.specs.Outcome.{Gives};
 ghost use Rattle.cycle_planner.specs.Weights.{AreWeights};
 ghost use Rattle.folder_playout.specs.Laws.{PlayoutsMeet};
+ghost use Rattle.shell_words.specs.Values.{word_bytes};
 ghost use Rattle.shell_words.specs.Words as commands;
 ghost use Rattle.watch_desk.specs.Prefixes.{prefixes_of};
-ghost use Rattle.shell_streams.specs.Sending.{IsInTime};
-ghost use Rattle.receiver_commands.specs.Over.{over, sink_over};
+ghost use Rattle.shell_streams.specs.Sending.{IsInTime, IsFlushed};
+ghost use Rattle.receiver_commands.specs.Over.{over, out_over};
 ghost use Rattle.shell_commands.specs.Laws.{Receptions};
 ghost use Rattle.shell_commands.specs.Limits.{Limits};
-ghost use Rattle.shell_commands.specs.Promises.{Promises, PromisesOther, Keeps, gives_notices, is_of_broadcaster, writes_store};
+ghost use Rattle.shell_commands.specs.Promises.{Promises, Keeps, gives_notices, writes_store};
+ghost use Rattle.shell_commands.specs.Inner.Promises.{PromisesOther, is_of_broadcaster, is_of_receiver};
 
 use crate::air::air;
 use crate::law::{limits_are_numbers, receptions};
@@ -96,13 +97,13 @@ pub fn run_plain<S: Source, K: Sink, F: Folders, T: Store, N: Notices>(
 ) -> Status
     requires untold { N.told notices.old notices.old [] }
     ensures keeps { Keeps weigh.weights (prefixes_of filters.items)
-        (commands.command_of (map string_bytes words.now)) result
+        (commands.command_of (word_bytes words.now)) result
         (over S.left S.faults source.old source.new) (over K.written K.faults sink.old sink.new)
         (over F.tree F.faults folders.old folders.new) (over T.tree T.faults store.old store.new)
         (F.refused folders.new) (N.told notices.old notices.new) }
-    ensures stored { writes_store (commands.command_of (map string_bytes words.now)) ≡ false
+    ensures stored { writes_store (commands.command_of (word_bytes words.now)) ≡ false
         → store.new ≡ store.old }
-    ensures quiet { gives_notices (commands.command_of (map string_bytes words.now)) ≡ false
+    ensures quiet { gives_notices (commands.command_of (word_bytes words.now)) ≡ false
         → notices.new ≡ notices.old }
     ensures in_time { K.failed sink.old ≡ false → K.late sink.new ≡ K.late sink.old }
     ensures receptions { Receptions }
@@ -128,7 +129,7 @@ pub fn run_plain<S: Source, K: Sink, F: Folders, T: Store, N: Notices>(
 /// memory was found for either.
 pub fn begin(alloc: Global, words: &[String]) -> Result<(Command, Vec<u8>), WordsFault>
     ensures gives { Gives (λ begun. commands.view begun.0) commands.cause result
-        (commands.command_of (map string_bytes words.now)) }
+        (commands.command_of (word_bytes words.now)) }
     ensures sized { IfOk result (λ begun. commands.IsSized begun.0) }
     ensures empty { IfOk result (λ begun. begun.1.items ≡ []) }
 {
@@ -154,11 +155,10 @@ pub fn run_command<S: Source, O: Output, F: Folders, T: Store, N: Notices>(
     filters: Vec<Filter>,
 ) -> Status
     requires sized { commands.IsSized command }
-    requires pending { (O.state out.old).pending ≡ [] }
+    requires pending { IsFlushed (O.state out.old) }
     requires untold { N.told notices.old notices.old [] }
     ensures promises { Promises weigh.weights (prefixes_of filters.items) (commands.view command)
-        result (over S.left S.faults source.old source.new)
-        (sink_over (O.state out.old) (O.state out.new))
+        result (over S.left S.faults source.old source.new) (out_over O.state out.old out.new)
         (over F.tree F.faults folders.old folders.new) (over T.tree T.faults store.old store.new)
         (F.refused folders.new) (N.told notices.old notices.new) }
     ensures same { (O.state out.new).name ≡ (O.state out.old).name }
@@ -242,11 +242,15 @@ fn run_receiving<S: Source, O: Output, T: Store>(
     filters: Vec<Filter>,
 ) -> Status
     requires sized { commands.IsSized command }
-    requires pending { (O.state out.old).pending ≡ [] }
+    requires pending { IsFlushed (O.state out.old) }
     ensures promises { is_of_broadcaster (commands.view command) ≡ false
         → PromisesOther (prefixes_of filters.items) (commands.view command) result
-        (over S.left S.faults source.old source.new)
-        (sink_over (O.state out.old) (O.state out.new)) (over T.tree T.faults store.old store.new) }
+        (over S.left S.faults source.old source.new) (out_over O.state out.old out.new)
+        (over T.tree T.faults store.old store.new) }
+    ensures declines { is_of_receiver (commands.view command) ≡ false
+        → (result ≡ Status.Words)
+        × (source.new ≡ source.old)
+        × (O.state out.new ≡ O.state out.old) }
     ensures same { (O.state out.new).name ≡ (O.state out.old).name }
     ensures stored { writes_store (Ok (commands.view command)) ≡ false → store.new ≡ store.old }
     ensures in_time { IsInTime (O.state out.old) (O.state out.new) }

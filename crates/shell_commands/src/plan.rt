@@ -1,7 +1,8 @@
-ghost use Rattle.std.specs.Prelude.{◌≡◌, ◌≤◌, []};
-ghost use Rattle.shell_streams.specs.Sending.{IsInTime};
-ghost use Rattle.receiver_commands.specs.Over.{over, sink_over};
-ghost use Rattle.shell_commands.specs.Plan.{TellsPlan, plan_status};
+ghost use Rattle.std.specs.Prelude.{◌≡◌, ◌≤◌};
+ghost use Rattle.shell_streams.specs.Sending.{IsInTime, IsFlushed};
+ghost use Rattle.receiver_commands.specs.Over.{over, out_over};
+ghost use Rattle.shell_commands.specs.Plan.{TellsPlan};
+ghost use Rattle.shell_commands.specs.Inner.Plan.{plan_status};
 
 use cycle_planner::Weigh;
 use folder_store::Folders;
@@ -27,11 +28,11 @@ pub fn plan<O: Output, F: Folders>(
     out: &mut O,
     folders: &mut F,
 ) -> Status
-    requires pending { (O.state out.old).pending ≡ [] }
+    requires pending { IsFlushed (O.state out.old) }
     requires rate { 1 ≤ bitrate }
     ensures tells { TellsPlan folder.now carousel weigh.now.weights bitrate result
-        (sink_over (O.state out.old) (O.state out.new))
-        (over F.tree F.faults folders.old folders.new) (F.refused folders.new) }
+        (out_over O.state out.old out.new) (over F.tree F.faults folders.old folders.new)
+        (F.refused folders.new) }
     ensures same { (O.state out.new).name ≡ (O.state out.old).name }
     ensures in_time { IsInTime (O.state out.old) (O.state out.new) }
 {

@@ -1,15 +1,15 @@
-ghost use Rattle.std.specs.Prelude.{◌≡◌, ◌<◌, [], map, IfOk, IfErr, OnOk};
+ghost use Rattle.std.specs.Prelude.{◌≡◌, ◌<◌, map, IfOk, IfErr, OnOk};
 ghost use Rattle.std.specs.List.{All};
 ghost use Rattle.std.specs.Arc.{arc_value};
-ghost use Rattle.cycle_planner.specs.Cycle.{cycle_of};
-ghost use Rattle.generation.specs.Layouts.{lines_of, section_of};
+ghost use Rattle.generation.specs.Layouts.{section_of, cycle_items, cycle_sections};
 ghost use Rattle.section_stream.specs.Packing.{IsSectionLike};
 ghost use Rattle.carousel_world.specs.Publishing.{repeat_list};
-ghost use Rattle.shell_streams.specs.Sending.{Puts, IsInTime};
-ghost use Rattle.receiver_commands.specs.Over.{over, sink_over};
+ghost use Rattle.shell_streams.specs.Sending.{Puts, IsInTime, IsFlushed};
+ghost use Rattle.receiver_commands.specs.Over.{over, out_over};
 ghost use Rattle.shell_commands.specs.Publish.{Publishes};
-ghost use Rattle.shell_commands.specs.Cycles.{IsOfFolder, Refused, group_bytes};
+ghost use Rattle.shell_commands.specs.Inner.Cycles.{IsOfFolder, Refused, group_bytes};
 
+use carousel_profile::CAROUSEL_PID;
 use carousel_world::publications_can_be_packed;
 use cycle_planner::Weigh;
 use cycle_sender::Sender;
@@ -23,7 +23,7 @@ use std::alloc::Global;
 use std::sync::Arc;
 
 /// The PID on which a carousel is sent where the command names none (this project's own).
-pub const PID: u16 = 256;
+pub const PID: u16 = CAROUSEL_PID;
 
 /// Who commits the folder: the history has one entry, and nobody asks for it.
 const EDITOR: u32 = 1;
@@ -46,11 +46,10 @@ pub fn publish<O: Output, F: Folders>(
     out: &mut O,
     folders: &mut F,
 ) -> Status
-    requires pending { (O.state out.old).pending ≡ [] }
+    requires pending { IsFlushed (O.state out.old) }
     requires in_range { pid < 8192 }
     ensures publishes { Publishes pid folder.now carousel weigh.weights cycles result
-        (sink_over (O.state out.old) (O.state out.new))
-        (over F.tree F.faults folders.old folders.new) }
+        (out_over O.state out.old out.new) (over F.tree F.faults folders.old folders.new) }
     ensures same { (O.state out.new).name ≡ (O.state out.old).name }
     ensures in_time { IsInTime (O.state out.old) (O.state out.new) }
 {
@@ -99,13 +98,12 @@ fn send<O: Output>(
     out: &mut O,
 ) -> Result<(), OutputFault>
     requires in_range { pid < 8192 }
-    requires like { All IsSectionLike
-        (map (section_of generation.now) (cycle_of weigh.now.weights (lines_of generation.now))) }
+    requires like { All IsSectionLike (cycle_sections weigh.now.weights generation.now) }
     ensures puts { Puts result (O.state out.old) (O.state out.new)
         (group_bytes pid
         (map (section_of generation.now)
-        (repeat_list cycles (cycle_of weigh.now.weights (lines_of generation.now))))) }
-    ensures empty { OnOk result ((O.state out.new).pending ≡ []) }
+        (repeat_list cycles (cycle_items weigh.now.weights generation.now)))) }
+    ensures empty { OnOk result (IsFlushed (O.state out.new)) }
 {
     let mut sender = Sender::new(alloc, pid);
     for _ in 0..cycles {

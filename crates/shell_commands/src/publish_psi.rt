@@ -1,15 +1,15 @@
-ghost use Rattle.std.specs.Prelude.{◌≡◌, [], map, OnOk};
+ghost use Rattle.std.specs.Prelude.{◌≡◌, OnOk};
 ghost use Rattle.std.specs.List.{All, concat};
-ghost use Rattle.cycle_planner.specs.Cycle.{cycle_of};
-ghost use Rattle.generation.specs.Layouts.{lines_of, section_of};
+ghost use Rattle.generation.specs.Layouts.{cycle_sections};
 ghost use Rattle.section_stream.specs.Packing.{IsSectionLike};
 ghost use Rattle.psi_tables.specs.Written.{announcer_packets, after_announcing};
-ghost use Rattle.shell_streams.specs.Sending.{Puts, IsInTime};
-ghost use Rattle.receiver_commands.specs.Over.{over, sink_over};
+ghost use Rattle.shell_streams.specs.Sending.{Puts, IsInTime, IsFlushed};
+ghost use Rattle.receiver_commands.specs.Over.{over, out_over};
 ghost use Rattle.shell_commands.specs.Announced.{cycles_sent, senders_start};
 ghost use Rattle.shell_commands.specs.PublishPsi.{PublishesPsi};
 
 use crate::publish::{PID, first_generation};
+use carousel_profile::PACKET_LENGTH;
 use carousel_world::publications_can_be_packed;
 use cycle_planner::Weigh;
 use cycle_sender::{Sender, put_packets};
@@ -34,10 +34,9 @@ pub fn publish_psi<O: Output, F: Folders>(
     out: &mut O,
     folders: &mut F,
 ) -> Status
-    requires { (O.state out.old).pending ≡ [] }
+    requires { IsFlushed (O.state out.old) }
     ensures publishes { PublishesPsi folder.now carousel weigh.weights cycles result
-        (sink_over (O.state out.old) (O.state out.new))
-        (over F.tree F.faults folders.old folders.new) }
+        (out_over O.state out.old out.new) (over F.tree F.faults folders.old folders.new) }
     ensures same { (O.state out.new).name ≡ (O.state out.old).name }
     ensures in_time { IsInTime (O.state out.old) (O.state out.new) }
 {
@@ -61,15 +60,12 @@ fn send_announced<O: Output>(
     cycles: u32,
     out: &mut O,
 ) -> Result<(), OutputFault>
-    requires { All IsSectionLike
-        (map (section_of generation.now) (cycle_of weigh.now.weights (lines_of generation.now))) }
+    requires { All IsSectionLike (cycle_sections weigh.now.weights generation.now) }
     ensures puts { Puts result (O.state out.old) (O.state out.new)
         (concat
-        (cycles_sent
-        (map (section_of generation.now)
-        (cycle_of weigh.now.weights (lines_of generation.now))) cycles
+        (cycles_sent (cycle_sections weigh.now.weights generation.now) cycles
         (senders_start carousel))) }
-    ensures empty { OnOk result ((O.state out.new).pending ≡ []) }
+    ensures empty { OnOk result (IsFlushed (O.state out.new)) }
 {
     let mut announcer = Announcer::new(alloc, carousel)?;
     let mut sender = Sender::new(alloc, PID);
@@ -83,7 +79,7 @@ fn send_announced<O: Output>(
 /// Sends the tables once; the packets need room.
 fn announce<O: Output>(
     announcer: &mut Announcer,
-    room: &mut Vec<[u8; 188]>,
+    room: &mut Vec<[u8; PACKET_LENGTH]>,
     out: &mut O,
 ) -> Result<(), OutputFault>
     ensures puts { Puts result (O.state out.old) (O.state out.new)

@@ -8,8 +8,10 @@ use Rattle.std.proofs.lemmas.List.{get_or_append_left, take-append-le, drop-appe
 use Rattle.std.proofs.lemmas.List.Folds.{concat-append}
 use Rattle.oc_bytes.specs.Outcome.{Known}
 use Rattle.shell_streams.proofs.Putting.{told_here}
-use Rattle.shell_streams.specs.Cuts.{Bytes, back_to_back_in, back_to_back, prefix_length}
-use Rattle.shell_streams.specs.Held.{onto_left, IsDry, AreCut, IsRear, AllTaken, is_over_sections, Stopped}
+use Rattle.shell_streams.specs.Cuts.{Bytes, back_to_back_in, back_to_back}
+use Rattle.shell_streams.specs.Inner.Cuts.{prefix_length}
+use Rattle.shell_streams.specs.Packets.{onto_left, IsRear, AllTaken, is_over_sections, Stopped}
+use Rattle.shell_streams.specs.Inner.Held.{IsDry, AreCut}
 use Rattle.shell_streams.specs.declared.input.InputFault.{InputFault}
 use Rattle.shell_streams.specs.declared.input.InputFault.TheVariants as faults
 

@@ -5,7 +5,7 @@ use Rattle.std.proofs.lemmas.List.{take-append-drop, take-append-le, take-take, 
 use Rattle.oc_bytes.specs.Outcome.{Known}
 use Rattle.oc_bytes.specs.Streams.{Takes}
 use Rattle.shell_streams.specs.Cuts.{Bytes}
-use Rattle.shell_streams.specs.Held.{AllTaken, IsRear, Stopped, is_longer}
+use Rattle.shell_streams.specs.Packets.{AllTaken, IsRear, Stopped, is_longer}
 use Rattle.shell_streams.specs.declared.input.InputFault.{InputFault}
 use Rattle.shell_streams.specs.declared.input.InputFault.TheVariants as faults
 use Rattle.shell_streams.proofs.Putting.{told_then, told_weaker}

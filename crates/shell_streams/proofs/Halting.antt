@@ -3,9 +3,8 @@ use Rattle.std.proofs.Common.{◌≡◌, ℕ, List, Option}
 use Rattle.std.specs.List.{concat}
 use Rattle.oc_bytes.specs.Outcome.{Known}
 use Rattle.shell_streams.specs.Cuts.{Bytes}
-use Rattle.shell_streams.specs.Packets.{HasCut, Halts, is_over_packets}
+use Rattle.shell_streams.specs.Packets.{HasCut, Halts, is_over_packets, Stopped}
 use Rattle.shell_streams.specs.declared.packets.PacketReader.{PacketReader}
-use Rattle.shell_streams.specs.Held.{Stopped}
 use Rattle.shell_streams.specs.declared.input.InputFault.{InputFault}
 use Rattle.shell_streams.specs.declared.input.InputFault.TheVariants as faults
 use Rattle.shell_streams.proofs.Putting.{told_weaker}

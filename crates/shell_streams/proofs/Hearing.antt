@@ -3,7 +3,7 @@ use Rattle.std.proofs.Common.{◌≡◌, ◌≤◌, ◌<◌, ℕ, ◌+◌, List,
 use Rattle.std.proofs.lemmas.List.{map_more}
 use Rattle.oc_bytes.specs.Outcome.{Rose, Known}
 use Rattle.shell_streams.specs.Cuts.{Bytes}
-use Rattle.shell_streams.specs.Held.{Stopped}
+use Rattle.shell_streams.specs.Packets.{Stopped}
 use Rattle.shell_streams.specs.Carriers.{Reading, HeardAll, Hears}
 use Rattle.shell_streams.specs.declared.input.InputFault.{InputFault}
 use Rattle.shell_streams.specs.declared.input.InputFault.TheVariants as inputs

@@ -10,7 +10,8 @@ use Rattle.std.proofs.lemmas.Option.{same_Some}
 use Rattle.oc_bytes.specs.Outcome.{Known}
 use borrow.Rule.Slice.PartMut.{put_mid, post_of}
 use Rattle.oc_bytes.specs.Streams.{Takes}
-use Rattle.shell_streams.specs.Held.{onto_left, IsDry, ReadsAfter}
+use Rattle.shell_streams.specs.Packets.{onto_left}
+use Rattle.shell_streams.specs.Inner.Held.{IsDry, ReadsAfter}
 
 -- without the first n of what is held
 pub range_drop : (n i j : ℕ) (xs : List ℕ) → i + n ≤ j → slice_range xs (i + n) j ≡ drop n (slice_range xs i j)

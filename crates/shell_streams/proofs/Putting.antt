@@ -5,7 +5,7 @@ use Rattle.std.proofs.lemmas.Bool.{true≢false}
 use Rattle.std.proofs.lemmas.Option.{same_Some}
 use Rattle.oc_bytes.specs.Outcome.{Rose, Known}
 use Rattle.section_stream.specs.Cuts.{Bytes}
-use Rattle.shell_streams.specs.Held.{AllTaken, IsRear}
+use Rattle.shell_streams.specs.Packets.{AllTaken, IsRear}
 use Rattle.shell_streams.specs.Sending.{OutputState, Sends, Puts, IsInTime}
 use Rattle.shell_streams.specs.declared.output.OutputFault.{OutputFault}
 use Rattle.shell_streams.specs.declared.output.OutputFault.TheVariants as faults

@@ -2,32 +2,24 @@
 use Rattle.std.specs.Prelude.{◌≡◌, ◌≤◌, ℕ, Bool, List, Option, Result, Err, IfOk, IfErr}
 use Rattle.oc_bytes.specs.Outcome.{Rose, Known}
 use Rattle.shell_streams.specs.Cuts.{Bytes, back_to_back}
-use Rattle.shell_streams.specs.Held.{AllTaken, Stopped, is_over_sections}
-use Rattle.shell_streams.specs.Packets.{packets_of, candidates_of, is_over_packets}
+use Rattle.shell_streams.specs.Packets.{AllTaken, Stopped, is_over_sections, packets_of, candidates_of, is_over_packets}
 use Rattle.shell_streams.specs.declared.carrier.Carrier.{Carrier}
 use Rattle.shell_streams.specs.declared.carrier.Carrier.TheVariants as carriers
 use Rattle.shell_streams.specs.declared.input.InputFault.{InputFault}
 use Rattle.shell_streams.specs.declared.input.InputFault.TheVariants as inputs
 use Rattle.shell_streams.specs.declared.packets.TheConstants.{MOST_PACKETS}
 
--- all sections of an input
-abbrev pub candidates_in : Carrier → Bytes → List Bytes
-candidates_in (carriers.Sections most) = back_to_back
-candidates_in (carriers.Packets pid) = candidates_of pid
-
--- the most was taken, and at least a byte more is there
-abbrev pub is_over : Carrier → Bytes → Bool
-is_over (carriers.Sections most) = is_over_sections most
-is_over (carriers.Packets pid) = is_over_packets MOST_PACKETS
-
 -- a way of reading an input: what stands in it, and whether it goes on after the most that is taken
 pub record Reading : Type 0 where
   pub standing_in : Bytes → List Bytes
   pub goes_on : Bytes → Bool
 
--- the sections of an input
+-- the sections of an input; it goes on where the most was taken, and at least a byte more is there
 abbrev pub sections_by : Carrier → Reading
-sections_by carrier = record { standing_in = candidates_in carrier; goes_on = is_over carrier }
+sections_by (carriers.Sections most) =
+    record { standing_in = back_to_back; goes_on = is_over_sections most }
+sections_by (carriers.Packets pid) =
+    record { standing_in = candidates_of pid; goes_on = is_over_packets MOST_PACKETS }
 
 -- its packets, whatever their PIDs
 abbrev pub all_packets : Reading

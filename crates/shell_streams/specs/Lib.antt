@@ -1,5 +1,5 @@
 pub mod Cuts
-pub mod Held
 pub mod Packets
 pub mod Carriers
 pub mod Sending
+pub mod Inner

@@ -1,5 +1,5 @@
 -- Output that is written in large pieces: what was written, and what is pending.
-use Rattle.std.specs.Prelude.{◌≡◌, ◌≤◌, ℕ, ◌++◌, Bool, false, Option, Result, Ok, OnOk, OnErr, IsErrOf}
+use Rattle.std.specs.Prelude.{◌≡◌, ◌≤◌, ℕ, ◌++◌, Bool, false, Option, Result, Ok, OnOk, OnErr, IsErrOf, []}
 use Rattle.oc_bytes.specs.Outcome.{Rose, Known}
 use Rattle.oc_bytes.specs.declared.sink.WriteFault.{WriteFault}
 use Rattle.oc_bytes.specs.declared.sink.WriteFault.TheVariants as writes
@@ -16,6 +16,10 @@ pub record OutputState : Type 0 where
   pub failed : Bool
   pub late : Bool
   pub pending : Bytes
+
+-- nothing is pending
+abbrev pub IsFlushed : OutputState → Type 0
+IsFlushed out = out.pending ≡ []
 
 -- what was pending and then the text went to the sink, up to this rest of it
 pub record Sends (pending text rest before after : Bytes) : Type 0 where

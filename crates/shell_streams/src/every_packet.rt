@@ -5,8 +5,9 @@ ghost use Rattle.shell_streams.specs.Cuts.{Bytes};
 ghost use Rattle.shell_streams.specs.Carriers.{Hears, all_packets};
 
 use crate::input::InputFault;
-use crate::packets::{MOST_PACKETS, PACKET, has_next};
+use crate::packets::{MOST_PACKETS, has_next};
 use crate::unread::Unread;
+use carousel_profile::PACKET_LENGTH;
 use oc_bytes::{NoMemory, Source};
 use std::alloc::Global;
 
@@ -19,7 +20,7 @@ pub trait PacketListener {
     ghost heard: { Self → Self → List Bytes → Type 0 };
 
     /// Hears the next one.
-    fn hear(&mut self, packet: &[u8; 188]) -> Result<(), NoMemory>
+    fn hear(&mut self, packet: &[u8; PACKET_LENGTH]) -> Result<(), NoMemory>
         ensures { OnOk result ((start : Self) (packets : List Bytes)
             → heard start self.old packets
             → heard start self.new (packets ++ packet.now ∷ [])) };
@@ -60,11 +61,11 @@ pub fn hear_packets_and_rest<S: Source, L: PacketListener>(
     let mut unread = Unread::new(alloc)?;
     let mut most = MOST_PACKETS;
     while has_next(&mut unread, most, source)? {
-        let Some(packet) = unread.held().first_chunk::<PACKET>() else {
+        let Some(packet) = unread.held().first_chunk::<PACKET_LENGTH>() else {
             unreachable!();
         };
         listener.hear(packet)?;
-        unread.pass(PACKET);
+        unread.pass(PACKET_LENGTH);
         most -= 1;
     }
     Ok(unread.held().len())

@@ -1,4 +1,5 @@
-ghost use Rattle.std.specs.Prelude.{◌≡◌, ◌≤◌, [], length, IfOk, OnOk};
+ghost use Rattle.std.specs.Prelude.{◌≡◌, ◌≤◌, [], length, OnOk};
+ghost use Rattle.oc_bytes.specs.Outcome.{MakesList};
 ghost use Rattle.shell_streams.specs.Sending.{Puts};
 
 use oc_bytes::{NoMemory, Sink, WriteFault, write_all};
@@ -63,7 +64,7 @@ pub trait Output {
 
 /// Room for what is pending.
 pub fn room(alloc: Global) -> Result<Vec<u8>, NoMemory>
-    ensures { IfOk result (λ room. room.items ≡ []) }
+    ensures { MakesList result [] }
 {
     Ok(Vec::with_capacity(alloc, MOST_PENDING)?)
 }

@@ -1,22 +1,21 @@
 ghost use Rattle.std.specs.Prelude.{◌≡◌, ◌+◌, ◌<◌, ◌≤◌, ◌↔◌, ◌++◌, ℕ, List, Option, [], map, length, IsTrue, Ok, None, true, IfOk, IfErr, IfSome, OnErr, false};
-ghost use Rattle.oc_bytes.specs.Outcome.{Rose, Known};
+ghost use Rattle.oc_bytes.specs.Outcome.{Known, Faulted};
 ghost use Rattle.section_stream.specs.Kept.{view_bytes};
 ghost use Rattle.shell_streams.specs.Cuts.{Bytes};
-ghost use Rattle.shell_streams.specs.Held.{onto_left, IsDry};
-ghost use Rattle.shell_streams.specs.Packets.{HasCut, Halts, HasEnded, HasTaken, Stops, AreAllTaken, is_ready};
+ghost use Rattle.shell_streams.specs.Packets.{onto_left, HasCut, Halts, HasEnded, HasTaken, Stops, is_ready, LosesNothing};
+ghost use Rattle.shell_streams.specs.Inner.Held.{IsDry};
+ghost use Rattle.shell_streams.specs.Inner.Packets.{AreAllTaken};
 
 use crate::input::InputFault;
 use crate::sections::goes_on;
 use crate::unread::Unread;
+use carousel_profile::PACKET_LENGTH;
 use oc_bytes::{Failed, NoMemory, Source};
 use section_stream::PacketDemux;
 use std::alloc::Global;
 
 /// The most packets that are taken.
 pub const MOST_PACKETS: u32 = 16_777_216;
-
-/// The size of a packet in bytes (ISO/IEC 13818-1, 2.4.3.2).
-pub const PACKET: usize = 188;
 
 /// Reads an input packet by packet, and cuts the sections of one PID out of it.
 #[derive(Drop)]
@@ -43,7 +42,7 @@ impl PacketReader {
     pub fn is_ready(&self) -> bool
         ensures { result ≡ is_ready self.now }
     {
-        self.unread.held().len() >= PACKET && self.most > 0
+        self.unread.held().len() >= PACKET_LENGTH && self.most > 0
     }
 
     /// Takes the next packet, and gives the sections that it completes, in order; `None` where the input has ended. A last
@@ -70,7 +69,7 @@ impl PacketReader {
             (s ≡ InputFault.NoMemory → ⊥) → is_ready self.old ≡ false) }
         ensures later { S.faults source.old ≤ S.faults source.new }
         ensures read_fault { IfErr result (λ s.
-            s ≡ InputFault.Failed → Rose (S.faults source.old) (S.faults source.new)) }
+            s ≡ InputFault.Failed → Faulted S.faults source.old source.new) }
     {
         if !has_next(&mut self.unread, self.most, source)? {
             if !self.unread.held().is_empty() {
@@ -78,11 +77,11 @@ impl PacketReader {
             }
             return Ok(None);
         }
-        let Some(packet) = self.unread.held().first_chunk::<PACKET>() else {
+        let Some(packet) = self.unread.held().first_chunk::<PACKET_LENGTH>() else {
             unreachable!();
         };
         let sections = self.demux.feed(packet)?;
-        self.unread.pass(PACKET);
+        self.unread.pass(PACKET_LENGTH);
         self.most -= 1;
         Ok(Some(sections))
     }
@@ -94,9 +93,8 @@ pub fn has_next<S: Source>(
     most: u32,
     source: &mut S,
 ) -> Result<bool, InputFault>
-    ensures next { result ≡ Ok true → (188 ≤ length unread.new) × (0 < most) }
-    ensures rest { onto_left unread.new (S.left source.new)
-        ≡ onto_left unread.old (S.left source.old) }
+    ensures next { result ≡ Ok true → (PACKET_LENGTH ≤ length unread.new) × (0 < most) }
+    ensures rest { LosesNothing unread.old (S.left source.old) unread.new (S.left source.new) }
     ensures ended { result ≡ Ok false
         → (start : Option Bytes) (packets : List Bytes)
         → HasTaken packets most start (onto_left unread.old (S.left source.old))
@@ -105,10 +103,10 @@ pub fn has_next<S: Source>(
         (start : Option Bytes) (packets : List Bytes)
         → HasTaken packets most start (onto_left unread.old (S.left source.old))
         → Known start (S.left source.new) (Stops packets s)) }
-    ensures needed { OnErr result (0 < most → length unread.old < 188) }
+    ensures needed { OnErr result (0 < most → length unread.old < PACKET_LENGTH) }
     ensures later { S.faults source.old ≤ S.faults source.new }
     ensures read_fault { IfErr result (λ s.
-        s ≡ InputFault.Failed → Rose (S.faults source.old) (S.faults source.new)) }
+        s ≡ InputFault.Failed → Faulted S.faults source.old source.new) }
 {
     if most > 0 {
         return Ok(has_packet(unread, source)?);
@@ -122,17 +120,16 @@ pub fn has_next<S: Source>(
 
 /// Reads until a whole packet is held, and says whether there is one.
 fn has_packet<S: Source>(unread: &mut Unread, source: &mut S) -> Result<bool, Failed>
-    ensures whole { IfOk result (λ whole. IsTrue whole ↔ (188 ≤ length unread.new)) }
+    ensures whole { IfOk result (λ whole. IsTrue whole ↔ (PACKET_LENGTH ≤ length unread.new)) }
     ensures ended { result ≡ Ok false → IsDry (S.left source.new) }
-    ensures short { OnErr result (length unread.new < 188) }
-    ensures needed { OnErr result (length unread.old < 188) }
-    ensures rest { onto_left unread.new (S.left source.new)
-        ≡ onto_left unread.old (S.left source.old) }
+    ensures short { OnErr result (length unread.new < PACKET_LENGTH) }
+    ensures needed { OnErr result (length unread.old < PACKET_LENGTH) }
+    ensures rest { LosesNothing unread.old (S.left source.old) unread.new (S.left source.new) }
     ensures later { S.faults source.old ≤ S.faults source.new }
-    ensures cause { OnErr result (Rose (S.faults source.old) (S.faults source.new)) }
+    ensures cause { OnErr result (Faulted S.faults source.old source.new) }
 {
     loop {
-        let whole = unread.held().len() >= PACKET;
+        let whole = unread.held().len() >= PACKET_LENGTH;
         if whole || !unread.more(source)? {
             return Ok(whole);
         }

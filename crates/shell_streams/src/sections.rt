@@ -1,7 +1,9 @@
 ghost use Rattle.std.specs.Prelude.{◌≡◌, ◌≢◌, ◌<◌, ◌≤◌, ◌↔◌, [], Ok, Some, None, false, IsTrue, length, IfOk, OnErr};
-ghost use Rattle.oc_bytes.specs.Outcome.{Rose};
-ghost use Rattle.shell_streams.specs.Cuts.{Bytes, prefix_length};
-ghost use Rattle.shell_streams.specs.Held.{onto_left, IsDry};
+ghost use Rattle.oc_bytes.specs.Outcome.{Faulted};
+ghost use Rattle.shell_streams.specs.Cuts.{Bytes};
+ghost use Rattle.shell_streams.specs.Inner.Cuts.{prefix_length};
+ghost use Rattle.shell_streams.specs.Packets.{onto_left, LosesNothing};
+ghost use Rattle.shell_streams.specs.Inner.Held.{IsDry};
 ghost use Rattle.shell_streams.specs.declared.unread.TheConstants.{MOST_HELD};
 
 use crate::unread::Unread;
@@ -23,10 +25,9 @@ fn section_len(bytes: &[u8]) -> Option<usize>
 pub fn next_section<S: Source>(unread: &mut Unread, source: &mut S) -> Result<Option<usize>, Failed>
     ensures len { IfOk result (λ len. len ≡ prefix_length unread.new) }
     ensures ended { result ≡ Ok None → IsDry (S.left source.new) }
-    ensures rest { onto_left unread.new (S.left source.new)
-        ≡ onto_left unread.old (S.left source.old) }
+    ensures rest { LosesNothing unread.old (S.left source.old) unread.new (S.left source.new) }
     ensures later { S.faults source.old ≤ S.faults source.new }
-    ensures cause { OnErr result (Rose (S.faults source.old) (S.faults source.new)) }
+    ensures cause { OnErr result (Faulted S.faults source.old source.new) }
 {
     loop {
         let len = section_len(unread.held());
@@ -44,10 +45,9 @@ pub fn goes_on<S: Source>(unread: &mut Unread, source: &mut S) -> Result<bool, F
         → IsTrue more ↔ (rest ≢ [])) }
     ensures ended { result ≡ Ok false → IsDry (S.left source.new) }
     ensures none { OnErr result (unread.new ≡ []) }
-    ensures rest { onto_left unread.new (S.left source.new)
-        ≡ onto_left unread.old (S.left source.old) }
+    ensures rest { LosesNothing unread.old (S.left source.old) unread.new (S.left source.new) }
     ensures later { S.faults source.old ≤ S.faults source.new }
-    ensures cause { OnErr result (Rose (S.faults source.old) (S.faults source.new)) }
+    ensures cause { OnErr result (Faulted S.faults source.old source.new) }
 {
     if !unread.held().is_empty() {
         return Ok(true);

@@ -1,6 +1,7 @@
 ghost use Rattle.std.specs.Prelude.{◌≡◌, ◌+◌, ◌-◌, ◌<◌, ◌≤◌, ℕ, [], Ok, false, true, length, take, drop, IfOk, OnErr};
-ghost use Rattle.oc_bytes.specs.Outcome.{Rose, Known};
-ghost use Rattle.shell_streams.specs.Held.{onto_left, IsDry, ReadsAfter};
+ghost use Rattle.oc_bytes.specs.Outcome.{Known, Faulted};
+ghost use Rattle.shell_streams.specs.Packets.{LosesNothing};
+ghost use Rattle.shell_streams.specs.Inner.Held.{IsDry, ReadsAfter};
 
 use oc_bytes::{Failed, NoMemory, Source};
 use std::alloc::Global;
@@ -63,13 +64,12 @@ impl Unread {
     /// Reads at least one byte more after those that are held, and says whether there was one.
     pub fn more<S: Source>(&mut self, source: &mut S) -> Result<bool, Failed>
         requires { length self.old < MOST_HELD }
-        ensures rest { onto_left self.new (S.left source.new)
-            ≡ onto_left self.old (S.left source.old) }
+        ensures rest { LosesNothing self.old (S.left source.old) self.new (S.left source.new) }
         ensures grew { result ≡ Ok true → length self.old < length self.new }
         ensures ended { result ≡ Ok false → (self.new ≡ self.old) × IsDry (S.left source.new) }
         ensures kept { OnErr result (self.new ≡ self.old) }
         ensures later { S.faults source.old ≤ S.faults source.new }
-        ensures cause { OnErr result (Rose (S.faults source.old) (S.faults source.new)) }
+        ensures cause { OnErr result (Faulted S.faults source.old source.new) }
     {
         let held = self.end - self.at;
         let at = with_room(&mut self.bytes, self.at, held);
@@ -107,7 +107,7 @@ fn read_behind<S: Source>(source: &mut S, bytes: &mut [u8], start: usize) -> Res
         ReadsAfter bytes.new before after start n)) }
     ensures nothing { OnErr result (S.left source.new ≡ S.left source.old) }
     ensures later { S.faults source.old ≤ S.faults source.new }
-    ensures cause { OnErr result (Rose (S.faults source.old) (S.faults source.new)) }
+    ensures cause { OnErr result (Faulted S.faults source.old source.new) }
 {
     source.read(&mut bytes[start..])
 }

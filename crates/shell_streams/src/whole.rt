@@ -1,6 +1,6 @@
 ghost use Rattle.std.specs.Prelude.{◌≡◌, ◌≤◌, Err, IfOk, IfErr};
-ghost use Rattle.oc_bytes.specs.Outcome.{Rose, Known};
-ghost use Rattle.shell_streams.specs.Held.{AllTaken, Stopped, is_longer};
+ghost use Rattle.oc_bytes.specs.Outcome.{Known, Faulted};
+ghost use Rattle.shell_streams.specs.Packets.{AllTaken, Stopped, is_longer};
 
 use crate::input::InputFault;
 use oc_bytes::Source;
@@ -25,8 +25,7 @@ pub fn read_all<S: Source>(
     ensures stopped { IfErr result (λ fault.
         Known (S.left source.old) (S.left source.new) (Stopped (is_longer most) fault)) }
     ensures later { S.faults source.old ≤ S.faults source.new }
-    ensures cause { result ≡ Err InputFault.Failed
-        → Rose (S.faults source.old) (S.faults source.new) }
+    ensures cause { result ≡ Err InputFault.Failed → Faulted S.faults source.old source.new }
 {
     let mut piece = vec![in alloc; 0; PIECE]?;
     let mut bytes = Vec::new(alloc);

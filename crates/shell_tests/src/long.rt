@@ -1,6 +1,7 @@
 //! Inputs that go on after a command's limit.
 
 use crate::failing::{HELLO, run_once, words};
+use carousel_profile::PACKET_LENGTH;
 use folder_store::{MemFolders, MemStore};
 use oc_bytes::{Failed, MemSink, Source};
 use std::alloc::Global;
@@ -68,7 +69,7 @@ fn code(alloc: Global, line: &str, unit: &[u8], left: usize) -> Result<u8, Fail>
 fn inputs_that_go_on_are_too_long(rt: HostRuntime) -> Result<(), Fail> {
     let alloc = rt.alloc();
     // A packet of stuffing, and a section of twelve bytes that doesn't read.
-    let mut packet = [0xFF; 188];
+    let mut packet = [0xFF; PACKET_LENGTH];
     packet[0] = 0x47;
     packet[1] = 0x1F;
     packet[3] = 0x10;

@@ -14,7 +14,7 @@ use Rattle.shell_words.specs.declared.places.Slot.TheVariants as slots
 use Rattle.shell_words.specs.declared.places.Complaint.{Complaint}
 use Rattle.shell_words.specs.declared.places.Complaint.TheVariants as complaints
 use Rattle.shell_words.specs.Complaints.{FitsIsAccepted}
-use Rattle.shell_words.specs.Keywords.{words_by, words_after}
+use Rattle.shell_words.specs.Inner.Keywords.{words_by, words_after}
 use Rattle.shell_words.specs.Places.{keyword_table, keyword_of, slot_at, needed, suits, has_value, breaks, complaint_at, complaint_after, complaint_by, complaint_behind, first_breaking, asks_why, complaint_of, plain_complaint_of}
 use Rattle.shell_words.specs.Values.{◌>>=◌, begins_with_dash, pid_in, any_u32_in, folder_in, path_in, onto, each_in, watched_in, Entry, table_in}
 use Rattle.shell_words.proofs.Naming.{same_length, published_on, on_air}

@@ -15,7 +15,7 @@ use Rattle.clap.specs.declared.parser.ValueSource.TheVariants.{CommandLine}
 use Rattle.clap.specs.Words.{reading_of}
 use Rattle.clap.specs.declared.builder.ValueParser.TheVariants as parsers
 use Rattle.shell_words.specs.Words.{begins_with_dash}
-use Rattle.shell_words.specs.Counting.{Fits, single, two_app, four_app, open_app, publish_app, app_of_keyword}
+use Rattle.shell_words.specs.Inner.Counting.{Fits, single, two_app, four_app, open_app, publish_app, app_of_keyword}
 use Rattle.shell_words.proofs.Naming.{any_map, same_length}
 use Rattle.shell_words.specs.declared.keyword.Keyword.{Keyword}
 use Rattle.shell_words.specs.declared.keyword.Keyword.TheVariants.{Assemble, Open, Record, List as ListAll, Publish, Rehearse, Session, Big, Find, OpenId, PublishPsi, PublishOn, Mounts, Watch, Plan, Inspect, Extract, Air}

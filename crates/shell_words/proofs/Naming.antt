@@ -12,8 +12,8 @@ use Rattle.shell_words.specs.declared.words.WordsFault.{WordsFault}
 use Rattle.shell_words.specs.declared.words.WordsFault.TheVariants as faults
 use Rattle.shell_words.specs.declared.keyword.Keyword.{Keyword}
 use Rattle.shell_words.specs.declared.keyword.Keyword.TheVariants as keywords
-use Rattle.shell_words.specs.Keywords.{words_by}
-use Rattle.shell_words.specs.Counting.{Fits}
+use Rattle.shell_words.specs.Inner.Keywords.{words_by}
+use Rattle.shell_words.specs.Inner.Counting.{Fits}
 use Rattle.shell_words.specs.Values.{◌>>=◌, pid_in, any_u32_in, path_in, onto, each_in, paths_in, watched_in, table_in}
 use Rattle.shell_words.specs.Words.{Named, Open, OpenId, PublishOn, Mounts, Watch, Air, Words, begins_with_dash, or_misfit, command_named, plain_command_of, view, cause}
 

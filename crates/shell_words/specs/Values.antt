@@ -1,6 +1,8 @@
 -- What single words stand for, and one or more of them.
-use Rattle.std.specs.Prelude.{◌≡◌, ℕ, ◌≤◌, Bool, true, false, ◌&&◌, ◌||◌, ◌==◌, nat_le, List, [], ◌∷◌, length, Option, Some, None, Result, Ok, Err, if◌then◌else◌}
+use Rattle.std.specs.Prelude.{◌≡◌, ℕ, ◌≤◌, Bool, true, false, ◌&&◌, ◌||◌, ◌==◌, nat_le, List, [], ◌∷◌, length, Option, Some, None, Result, Ok, Err, if◌then◌else◌, map}
 use Rattle.std.specs.List.{All, list_all, slice_split, before_first, after_first}
+use Rattle.std.specs.String.{string_bytes}
+use Rattle.std.specs.declared.string.String.{String}
 use Rattle.oc_bytes.specs.Decimals.{is_digit, decimal_in}
 use Rattle.path_tree.specs.Paths.{Bytes, PathNames}
 use Rattle.path_tree.specs.Texts.{path_of, TextFault}
@@ -11,6 +13,10 @@ infixl 10 ◌>>=◌
 abbrev pub ◌>>=◌ : {A B : Type 0} → Option A → (A → Option B) → Option B
 (Some x) >>= f = f x
 None >>= f = None
+
+-- the bytes of each word of a command line
+abbrev pub word_bytes : {Z : Type 0} → List (String Z) → List Bytes
+word_bytes words = map string_bytes words
 
 abbrev pub begins_with_dash : Bytes → Bool
 begins_with_dash [] = false

@@ -4,8 +4,8 @@ use Rattle.std.specs.List.{list_any, find}
 use Rattle.std.specs.Option.{option_map}
 use Rattle.std.specs.Str.{bytes_eq}
 use Rattle.std.specs.String.{string_bytes}
-use Rattle.std.specs.declared.string.String.{String}
 use Rattle.oc_bytes.specs.Decimals.{decimal_in}
+use Rattle.oc_bytes.specs.Outcome.{Gives}
 use Rattle.path_tree.specs.Paths.{Bytes, PathNames}
 pub use Rattle.shell_words.specs.Values.{◌>>=◌, begins_with_dash, pid_in, any_u32_in, folder_in, path_in, paths_in, watched_in, Entry, table_in, IsTable}
 use Rattle.shell_words.specs.Places.{asks_why, complaint_of}
@@ -70,6 +70,10 @@ abbrev pub cause : WordsFault → Option Misfit
 cause faults.Words = Some Words
 cause faults.NoMemory = None
 
+-- a call read this of the words, unless there was no memory
+abbrev pub ReadsAs : Result Command WordsFault → Result Named Misfit → Type 0
+ReadsAs outcome meaning = Gives view cause outcome meaning
+
 -- ---- the commands: what the words after the first one say, or None where they don't fit
 
 abbrev pub assemble_by : List Bytes → Option Named
@@ -109,9 +113,6 @@ publication_in greatest (folder ∷ carousel ∷ number ∷ []) = do
   f ← folder_in folder
   Some (f, c, n)
 publication_in greatest _ = None
-
-abbrev pub publication_view : {Z : Type 0} → String Z × ℕ × ℕ → Bytes × ℕ × ℕ
-publication_view p = (string_bytes p.0, p.1, p.2)
 
 abbrev pub publish_by : List Bytes → Option Named
 publish_by words = option_map (λ p. Publish p.0 p.1 p.2) (publication_in MOST_CYCLES words)
@@ -182,6 +183,10 @@ command_named word words = find (λ c. bytes_eq word c.0) commands >>= λ c. c.1
 abbrev pub or_misfit : {A : Type 0} → Option A → Result A Misfit
 or_misfit (Some x) = Ok x
 or_misfit None = Err Words
+
+-- the same of a command's words, which fit where this names it
+abbrev pub ReadsBy : Result Command WordsFault → Option Named → Type 0
+ReadsBy outcome named = ReadsAs outcome (or_misfit named)
 
 -- the command that the words name, where it isn't `why`
 abbrev pub plain_command_of : List Bytes → Result Named Misfit

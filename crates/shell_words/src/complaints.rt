@@ -1,7 +1,7 @@
 //! The texts of complaints.
 
-ghost use Rattle.std.specs.Prelude.{◌≡◌, IfOk};
-ghost use Rattle.std.specs.String.{string_bytes};
+ghost use Rattle.std.specs.Prelude.{◌≡◌};
+ghost use Rattle.oc_bytes.specs.Outcome.{Spells};
 ghost use Rattle.shell_words.specs.Complaints as complaints;
 ghost use Rattle.shell_words.specs.declared.places.Complaint.TheVariants.{Misfit};
 ghost use Rattle.shell_words.specs.declared.places.Slot.TheVariants.{Source, Table};
@@ -17,7 +17,7 @@ use std::alloc::Global;
 ///
 /// Out of memory is the only refusal.
 pub fn complaint_text(alloc: Global, complaint: Complaint) -> Result<String, NoMemory>
-    ensures { IfOk result (λ text. string_bytes text ≡ complaints.complaint_line complaint) }
+    ensures { Spells result (complaints.complaint_line complaint) }
 {
     match complaint {
         Complaint::Fits => String::from_str(alloc, "fits\n"),
@@ -33,8 +33,7 @@ pub fn complaint_text(alloc: Global, complaint: Complaint) -> Result<String, NoM
 
 /// The line of a word that doesn't fit.
 fn misfit_text(alloc: Global, number: usize, slot: Slot) -> Result<String, NoMemory>
-    ensures { IfOk result (λ text.
-        string_bytes text ≡ complaints.complaint_line (Misfit number slot)) }
+    ensures { Spells result (complaints.complaint_line (Misfit number slot)) }
 {
     let name = slot_name(slot);
     let rule = rule_text(alloc, slot)?;
@@ -67,7 +66,7 @@ fn slot_name(slot: Slot) -> &'static str
 
 /// The range or the form of what a word stands for.
 fn rule_text(alloc: Global, slot: Slot) -> Result<String, NoMemory>
-    ensures { IfOk result (λ text. string_bytes text ≡ complaints.rule_text slot) }
+    ensures { Spells result (complaints.rule_text slot) }
 {
     match slot.range() {
         Some((least, greatest)) => range_text(alloc, least, greatest),
@@ -76,13 +75,13 @@ fn rule_text(alloc: Global, slot: Slot) -> Result<String, NoMemory>
 }
 
 fn range_text(alloc: Global, least: u32, greatest: u32) -> Result<String, NoMemory>
-    ensures { IfOk result (λ text. string_bytes text ≡ complaints.range_text least greatest) }
+    ensures { Spells result (complaints.range_text least greatest) }
 {
     format!(in alloc; "{least} to {greatest}")
 }
 
 fn form_text(alloc: Global, slot: Slot) -> Result<String, NoMemory>
-    ensures { IfOk result (λ text. string_bytes text ≡ complaints.form_text slot) }
+    ensures { Spells result (complaints.form_text slot) }
 {
     match slot {
         Slot::Source => source_text(alloc),
@@ -94,14 +93,14 @@ fn form_text(alloc: Global, slot: Slot) -> Result<String, NoMemory>
 }
 
 fn source_text(alloc: Global) -> Result<String, NoMemory>
-    ensures { IfOk result (λ text. string_bytes text ≡ complaints.form_text Source) }
+    ensures { Spells result (complaints.form_text Source) }
 {
     let pid = range_text(alloc, 0, MOST_PID)?;
     format!(in alloc; "{pid}, or sections")
 }
 
 fn table_text(alloc: Global) -> Result<String, NoMemory>
-    ensures { IfOk result (λ text. string_bytes text ≡ complaints.form_text Table) }
+    ensures { Spells result (complaints.form_text Table) }
 {
     let length = range_text(alloc, 1, MOST_MOUNT_NAME as u32)?;
     let pid = range_text(alloc, 0, MOST_PID)?;

@@ -5,8 +5,8 @@ ghost use Rattle.std.specs.String.{string_bytes};
 ghost use Rattle.std.specs.List.{list_any};
 ghost use Rattle.clap.specs.Words.{app_of, rule_of};
 ghost use Rattle.shell_words.specs.Words.{begins_with_dash};
-ghost use Rattle.shell_words.specs.Counting as counting;
-ghost use Rattle.shell_words.specs.Counting.{Fits, app_of_keyword, one, one_or_more};
+ghost use Rattle.shell_words.specs.Inner.Counting as counting;
+ghost use Rattle.shell_words.specs.Inner.Counting.{Fits, app_of_keyword, one, one_or_more};
 
 use crate::keyword::Keyword;
 use crate::words::WordsFault;

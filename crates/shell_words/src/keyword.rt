@@ -1,7 +1,7 @@
 ghost use Rattle.std.specs.Prelude.{◌≡◌, List, map};
 ghost use Rattle.path_tree.specs.Paths.{Bytes};
 ghost use Rattle.shell_words.specs.Words.{command_named};
-ghost use Rattle.shell_words.specs.Keywords.{words_after};
+ghost use Rattle.shell_words.specs.Inner.Keywords.{words_after};
 ghost use Rattle.shell_words.specs.Places.{keyword_of, keyword_table};
 
 /// The first word of a command.

@@ -1,18 +1,20 @@
-ghost use Rattle.std.specs.Prelude.{◌≡◌, ◌≤◌, length, map, IfOk, IfSome};
+ghost use Rattle.std.specs.Prelude.{◌≡◌, ◌≤◌, length, IfOk, IfSome};
 ghost use Rattle.std.specs.String.{string_bytes};
 ghost use Rattle.std.specs.Option.{option_map};
 ghost use Rattle.std.specs.List.{list_any};
 ghost use Rattle.oc_bytes.specs.Outcome.{Gives};
+ghost use Rattle.shell_words.specs.Values.{word_bytes};
 ghost use Rattle.shell_words.specs.Words as commands;
-ghost use Rattle.shell_words.specs.Keywords.{words_by};
-ghost use Rattle.shell_words.specs.Counting.{Fits};
+ghost use Rattle.shell_words.specs.Inner.Words as inner;
+ghost use Rattle.shell_words.specs.Inner.Keywords.{words_by};
+ghost use Rattle.shell_words.specs.Inner.Counting.{Fits};
 
 use crate::counting::count;
 use crate::keyword::Keyword;
 use crate::places::{asks_why, first_complaint};
 use crate::table::table;
 use crate::values;
-use crate::values::begins_with_dash;
+use crate::values::{MOST_PID, begins_with_dash};
 use crate::words::{Command, WordsFault};
 use block_assembler::MOST_MODULE_SIZE;
 use std::alloc::Global;
@@ -40,8 +42,7 @@ pub const MOST_BIG: u32 = 16;
 /// `WordsFault::Words` comes exactly where the words don't fit that, and `WordsFault::NoMemory` only where no memory was
 /// found.
 pub fn command(alloc: Global, words: &[String]) -> Result<Command, WordsFault>
-    ensures gives { Gives commands.view commands.cause result
-        (commands.command_of (map string_bytes words.now)) }
+    ensures gives { commands.ReadsAs result (commands.command_of (word_bytes words.now)) }
     ensures sized { IfOk result commands.IsSized }
 {
     if asks_why(words) {
@@ -53,8 +54,7 @@ pub fn command(alloc: Global, words: &[String]) -> Result<Command, WordsFault>
 
 /// The command that the words name, where it isn't `why`.
 fn plain_command(alloc: Global, words: &[String]) -> Result<Command, WordsFault>
-    ensures gives { Gives commands.view commands.cause result
-        (commands.plain_command_of (map string_bytes words.now)) }
+    ensures gives { commands.ReadsAs result (commands.plain_command_of (word_bytes words.now)) }
     ensures sized { IfOk result commands.IsSized }
 {
     if words.is_empty() || has_dash(words) {
@@ -76,8 +76,7 @@ fn has_dash(words: &[String]) -> bool
 /// The command of this keyword, with the values of the words after it.
 fn read(alloc: Global, keyword: Keyword, words: &[String]) -> Result<Command, WordsFault>
     requires { Fits keyword (length words.now) }
-    ensures gives { Gives commands.view commands.cause result
-        (commands.or_misfit (words_by keyword (map string_bytes words.now))) }
+    ensures gives { commands.ReadsBy result (words_by keyword (word_bytes words.now)) }
     ensures sized { IfOk result commands.IsSized }
 {
     match keyword {
@@ -122,8 +121,7 @@ fn read(alloc: Global, keyword: Keyword, words: &[String]) -> Result<Command, Wo
 
 fn assemble(words: &[String]) -> Option<Command>
     requires { length words.now ≡ 4 }
-    ensures by { option_map commands.view result
-        ≡ commands.assemble_by (map string_bytes words.now) }
+    ensures by { option_map commands.view result ≡ commands.assemble_by (word_bytes words.now) }
     ensures sized { IfSome result commands.IsSized }
 {
     let [id, version, size, download] = words else {
@@ -143,8 +141,7 @@ fn assemble(words: &[String]) -> Option<Command>
 
 fn open(alloc: Global, words: &[String]) -> Result<Command, WordsFault>
     requires { 2 ≤ length words.now }
-    ensures gives { Gives commands.view commands.cause result
-        (commands.or_misfit (commands.open_by (map string_bytes words.now))) }
+    ensures gives { commands.ReadsBy result (commands.open_by (word_bytes words.now)) }
     ensures sized { IfOk result commands.IsSized }
 {
     if words[0].as_str() == "sections" {
@@ -161,8 +158,8 @@ fn open(alloc: Global, words: &[String]) -> Result<Command, WordsFault>
 /// The PID that is the only word of a command.
 fn only_pid(words: &[String]) -> Option<u16>
     requires { length words.now ≡ 1 }
-    ensures by { result ≡ commands.pid_by (map string_bytes words.now) }
-    ensures bound { IfSome result (λ pid. pid ≤ 8190) }
+    ensures by { result ≡ commands.pid_by (word_bytes words.now) }
+    ensures bound { IfSome result (λ pid. pid ≤ MOST_PID) }
 {
     let [pid] = words else {
         unreachable!();
@@ -177,8 +174,8 @@ fn publication(
     greatest: u32,
 ) -> Result<(String, u32, u32), WordsFault>
     requires { length words.now ≡ 3 }
-    ensures gives { Gives commands.publication_view commands.cause result
-        (commands.or_misfit (commands.publication_in greatest (map string_bytes words.now))) }
+    ensures gives { Gives inner.publication_view commands.cause result
+        (commands.or_misfit (commands.publication_in greatest (word_bytes words.now))) }
     ensures sized { IfOk result (λ p. commands.IsPublication greatest (string_bytes p.0) p.2) }
 {
     let [folder, carousel, number] = words else {
@@ -197,8 +194,7 @@ fn publication(
 /// A PID, and what is published on it.
 fn publish_on(alloc: Global, words: &[String]) -> Result<Command, WordsFault>
     requires { length words.now ≡ 4 }
-    ensures gives { Gives commands.view commands.cause result
-        (commands.or_misfit (commands.publish_on_by (map string_bytes words.now))) }
+    ensures gives { commands.ReadsBy result (commands.publish_on_by (word_bytes words.now)) }
     ensures sized { IfOk result commands.IsSized }
 {
     let Some(pid) = values::pid(words[0].as_str()) else {
@@ -211,8 +207,7 @@ fn publish_on(alloc: Global, words: &[String]) -> Result<Command, WordsFault>
 /// A PID, and what stays on the air on it.
 fn air(alloc: Global, words: &[String]) -> Result<Command, WordsFault>
     requires { length words.now ≡ 4 }
-    ensures gives { Gives commands.view commands.cause result
-        (commands.or_misfit (commands.air_by (map string_bytes words.now))) }
+    ensures gives { commands.ReadsBy result (commands.air_by (word_bytes words.now)) }
     ensures sized { IfOk result commands.IsSized }
 {
     let Some(pid) = values::pid(words[0].as_str()) else {
@@ -225,8 +220,7 @@ fn air(alloc: Global, words: &[String]) -> Result<Command, WordsFault>
 /// A PID, and the folder that is made.
 fn extract(alloc: Global, words: &[String]) -> Result<Command, WordsFault>
     requires { length words.now ≡ 2 }
-    ensures gives { Gives commands.view commands.cause result
-        (commands.or_misfit (commands.extract_by (map string_bytes words.now))) }
+    ensures gives { commands.ReadsBy result (commands.extract_by (word_bytes words.now)) }
     ensures sized { IfOk result commands.IsSized }
 {
     let [pid, folder] = words else {
@@ -242,8 +236,7 @@ fn extract(alloc: Global, words: &[String]) -> Result<Command, WordsFault>
 /// A table of carousels, and paths.
 fn mounts(alloc: Global, words: &[String]) -> Result<Command, WordsFault>
     requires { 2 ≤ length words.now }
-    ensures gives { Gives commands.view commands.cause result
-        (commands.or_misfit (commands.mounts_by (map string_bytes words.now))) }
+    ensures gives { commands.ReadsBy result (commands.mounts_by (word_bytes words.now)) }
     ensures sized { IfOk result commands.IsSized }
 {
     let table = table(alloc, words[0].as_str())?;
@@ -254,8 +247,7 @@ fn mounts(alloc: Global, words: &[String]) -> Result<Command, WordsFault>
 /// A PID, and the paths that are watched.
 fn watch(alloc: Global, words: &[String]) -> Result<Command, WordsFault>
     requires { 2 ≤ length words.now }
-    ensures gives { Gives commands.view commands.cause result
-        (commands.or_misfit (commands.watch_by (map string_bytes words.now))) }
+    ensures gives { commands.ReadsBy result (commands.watch_by (word_bytes words.now)) }
     ensures sized { IfOk result commands.IsSized }
 {
     let Some(pid) = values::pid(words[0].as_str()) else {
@@ -267,7 +259,7 @@ fn watch(alloc: Global, words: &[String]) -> Result<Command, WordsFault>
 
 fn find(words: &[String]) -> Option<Command>
     requires { length words.now ≡ 1 }
-    ensures by { option_map commands.view result ≡ commands.find_by (map string_bytes words.now) }
+    ensures by { option_map commands.view result ≡ commands.find_by (word_bytes words.now) }
     ensures sized { IfSome result commands.IsSized }
 {
     let [carousel] = words else {
@@ -279,8 +271,7 @@ fn find(words: &[String]) -> Option<Command>
 
 fn open_id(alloc: Global, words: &[String]) -> Result<Command, WordsFault>
     requires { 2 ≤ length words.now }
-    ensures gives { Gives commands.view commands.cause result
-        (commands.or_misfit (commands.open_id_by (map string_bytes words.now))) }
+    ensures gives { commands.ReadsBy result (commands.open_id_by (word_bytes words.now)) }
     ensures sized { IfOk result commands.IsSized }
 {
     let Some(carousel) = values::decimal(&words[0], 0, u32::MAX) else {
@@ -292,7 +283,7 @@ fn open_id(alloc: Global, words: &[String]) -> Result<Command, WordsFault>
 
 fn big(words: &[String]) -> Option<Command>
     requires { length words.now ≡ 1 }
-    ensures by { option_map commands.view result ≡ commands.big_by (map string_bytes words.now) }
+    ensures by { option_map commands.view result ≡ commands.big_by (word_bytes words.now) }
     ensures sized { IfSome result commands.IsSized }
 {
     let [size] = words else {

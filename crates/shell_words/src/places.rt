@@ -1,9 +1,9 @@
 //! What may stand behind a command's word, and what is wrong with words that don't fit.
 
-ghost use Rattle.std.specs.Prelude.{◌≡◌, ◌<◌, ◌+◌, ◌^◌, true, length, map, is_some, IfOk};
+ghost use Rattle.std.specs.Prelude.{◌≡◌, ◌<◌, ◌+◌, ◌^◌, true, length, is_some, IfOk};
 ghost use Rattle.std.specs.String.{string_bytes};
 ghost use Rattle.shell_words.specs.Places as places;
-ghost use Rattle.shell_words.specs.Values.{path_in, table_in};
+ghost use Rattle.shell_words.specs.Values.{path_in, table_in, word_bytes};
 ghost use Rattle.shell_words.specs.Complaints.{FitsIsAccepted, FirstIsNamed};
 
 use crate::keyword::Keyword;
@@ -276,7 +276,7 @@ fn complaint_behind(
 ) -> Result<Complaint, NoMemory>
     ensures { IfOk result (λ c.
         c ≡ places.complaint_by keyword (length words.now)
-        (places.first_breaking keyword (map string_bytes words.now))) }
+        (places.first_breaking keyword (word_bytes words.now))) }
 {
     for (place, word) in words.iter().enumerate() {
         if breaks(alloc, keyword, place, word)? {
@@ -296,9 +296,9 @@ fn complaint_behind(
 /// `Fits` comes exactly where `command` takes the words. A word that is named doesn't fit whatever follows it, and none before it is one that
 /// doesn't. Out of memory is the only refusal.
 pub fn first_complaint(alloc: Global, words: &[String]) -> Result<Complaint, NoMemory>
-    ensures gives { IfOk result (λ c. c ≡ places.complaint_of (map string_bytes words.now)) }
-    ensures fits { FitsIsAccepted (map string_bytes words.now) }
-    ensures first { FirstIsNamed (map string_bytes words.now) }
+    ensures gives { IfOk result (λ c. c ≡ places.complaint_of (word_bytes words.now)) }
+    ensures fits { FitsIsAccepted (word_bytes words.now) }
+    ensures first { FirstIsNamed (word_bytes words.now) }
 {
     if asks_why(words) {
         return Ok(Complaint::Fits);
@@ -314,7 +314,7 @@ pub fn first_complaint(alloc: Global, words: &[String]) -> Result<Complaint, NoM
 
 /// Whether the first word is that of the command that says what is wrong with other words.
 pub(crate) fn asks_why(words: &[String]) -> bool
-    ensures value { result ≡ places.asks_why (map string_bytes words.now) }
+    ensures value { result ≡ places.asks_why (word_bytes words.now) }
     ensures some { result ≡ true → 0 < length words.now }
 {
     match words {

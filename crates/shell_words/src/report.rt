@@ -1,12 +1,10 @@
 //! The texts of a report's lines. They are this project's own.
-ghost use Rattle.std.specs.Prelude.{◌≡◌, ◌++◌, ◌∷◌, IfOk, codes};
-ghost use Rattle.std.specs.Fmt.{decimal};
+ghost use Rattle.std.specs.Prelude.{◌∷◌};
 ghost use Rattle.std.specs.List.{flat_map};
-ghost use Rattle.std.specs.String.{string_bytes};
+ghost use Rattle.oc_bytes.specs.Outcome.{Spells};
 ghost use Rattle.hex.specs.Hex.{encode_lower};
 ghost use Rattle.shell_streams.specs.Sending.{Puts};
 ghost use Rattle.shell_words.specs.Reports as texts;
-ghost use Rattle.shell_words.specs.Texts.{with_number, answer_line, refusal_line};
 
 use crate::texts::{answer_text, refusal_text};
 use generation_catalogue::Refusal;
@@ -25,7 +23,7 @@ const PIECE: usize = 16_384;
 ///
 /// Out of memory is the only refusal.
 pub fn commit_text(alloc: Global, editor: u32) -> Result<String, NoMemory>
-    ensures { IfOk result (λ text. string_bytes text ≡ with_number (codes "commit") editor) }
+    ensures { Spells result (texts.commit_words editor) }
 {
     format!(in alloc; "commit {editor}")
 }
@@ -34,7 +32,7 @@ pub fn commit_text(alloc: Global, editor: u32) -> Result<String, NoMemory>
 ///
 /// Out of memory is the only refusal.
 pub fn draw_text(alloc: Global) -> Result<String, NoMemory>
-    ensures { IfOk result (λ text. string_bytes text ≡ codes "draw") }
+    ensures { Spells result (texts.draw_words) }
 {
     String::from_str(alloc, "draw")
 }
@@ -43,7 +41,7 @@ pub fn draw_text(alloc: Global) -> Result<String, NoMemory>
 ///
 /// Out of memory is the only refusal.
 pub fn open_text(alloc: Global, reader: u32) -> Result<String, NoMemory>
-    ensures { IfOk result (λ text. string_bytes text ≡ with_number (codes "open") reader) }
+    ensures { Spells result (texts.open_words reader) }
 {
     format!(in alloc; "open {reader}")
 }
@@ -54,7 +52,7 @@ pub fn open_text(alloc: Global, reader: u32) -> Result<String, NoMemory>
 ///
 /// Out of memory is the only refusal.
 pub fn committed_text(alloc: Global, number: u64) -> Result<String, NoMemory>
-    ensures { IfOk result (λ text. string_bytes text ≡ with_number (codes "generation") number) }
+    ensures { Spells result (texts.committed_words number) }
 {
     format!(in alloc; "generation {number}")
 }
@@ -63,8 +61,7 @@ pub fn committed_text(alloc: Global, number: u64) -> Result<String, NoMemory>
 ///
 /// Out of memory is the only refusal.
 pub fn refused_text(alloc: Global, refusal: &Refusal) -> Result<String, NoMemory>
-    ensures { IfOk result (λ text.
-        string_bytes text ≡ codes "refused" ++ 32 ∷ refusal_line refusal.now) }
+    ensures { Spells result (texts.refused_words refusal.now) }
 {
     let refusal = refusal_text(alloc, refusal)?;
     format!(in alloc; "refused {refusal}")
@@ -80,8 +77,7 @@ pub fn drawn_text(
     first: u64,
     count: u64,
 ) -> Result<String, NoMemory>
-    ensures { IfOk result (λ text.
-        string_bytes text ≡ decimal generation ++ (32 ∷ decimal first ++ 32 ∷ decimal count)) }
+    ensures { Spells result (texts.drawn_words generation first count) }
 {
     format!(in alloc; "{generation} {first} {count}")
 }
@@ -90,8 +86,7 @@ pub fn drawn_text(
 ///
 /// Out of memory is the only refusal.
 pub fn draws_full_text(alloc: Global, draws: u64) -> Result<String, NoMemory>
-    ensures { IfOk result (λ text.
-        string_bytes text ≡ with_number (codes "refused draws-full") draws) }
+    ensures { Spells result (texts.draws_full_words draws) }
 {
     format!(in alloc; "refused draws-full {draws}")
 }
@@ -106,9 +101,7 @@ pub fn opened_text(
     label: Option<u64>,
     answer: &Answer,
 ) -> Result<String, NoMemory>
-    ensures { IfOk result (λ text.
-        string_bytes text
-        ≡ texts.label_word label ++ (32 ∷ path.now ++ 32 ∷ answer_line answer.now)) }
+    ensures { Spells result (texts.opened_words label path.now answer.now) }
 {
     let answer = answer_text(alloc, answer)?;
     match label {

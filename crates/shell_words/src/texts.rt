@@ -1,5 +1,5 @@
-ghost use Rattle.std.specs.Prelude.{◌≡◌, IfOk};
-ghost use Rattle.std.specs.String.{string_bytes};
+ghost use Rattle.std.specs.Prelude.{◌≡◌};
+ghost use Rattle.oc_bytes.specs.Outcome.{Spells};
 ghost use Rattle.shell_words.specs.Texts.{answer_line, answered_line, refusal_line, fault_text};
 
 use generation_catalogue::Refusal;
@@ -13,7 +13,7 @@ use std::alloc::Global;
 ///
 /// Out of memory is the only refusal.
 pub fn answer_text(alloc: Global, answer: &Answer) -> Result<String, NoMemory>
-    ensures { IfOk result (λ text. string_bytes text ≡ answer_line answer.now) }
+    ensures { Spells result (answer_line answer.now) }
 {
     match answer {
         Answer::File(file) => {
@@ -39,7 +39,7 @@ pub fn answer_text(alloc: Global, answer: &Answer) -> Result<String, NoMemory>
 ///
 /// Out of memory is the only refusal.
 pub fn answered_text(alloc: Global, path: &Path, answer: &Answer) -> Result<String, NoMemory>
-    ensures { IfOk result (λ text. string_bytes text ≡ answered_line path.now answer.now) }
+    ensures { Spells result (answered_line path.now answer.now) }
 {
     let answer = answer_text(alloc, answer)?;
     let mut text = path.print()?;
@@ -54,7 +54,7 @@ pub fn answered_text(alloc: Global, path: &Path, answer: &Answer) -> Result<Stri
 ///
 /// Out of memory is the only refusal.
 pub fn refusal_text(alloc: Global, refusal: &Refusal) -> Result<String, NoMemory>
-    ensures { IfOk result (λ text. string_bytes text ≡ refusal_line refusal.now) }
+    ensures { Spells result (refusal_line refusal.now) }
 {
     match refusal {
         Refusal::SeasonFull(number) => format!(in alloc; "season-full {number}"),

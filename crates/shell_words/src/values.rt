@@ -1,9 +1,10 @@
 //! The values that single words stand for.
 
-ghost use Rattle.std.specs.Prelude.{◌≡◌, ◌≤◌, ◌<◌, length, map, IfOk, IfSome};
+ghost use Rattle.std.specs.Prelude.{◌≡◌, ◌≤◌, ◌<◌, length, IfOk, IfSome};
 ghost use Rattle.std.specs.String.{string_bytes};
 ghost use Rattle.std.specs.List.{list_all};
 ghost use Rattle.oc_bytes.specs.Outcome.{Gives};
+ghost use Rattle.shell_words.specs.Values.{word_bytes};
 ghost use Rattle.oc_bytes.specs.Decimals as decimals;
 ghost use Rattle.shell_words.specs.Values as values;
 ghost use Rattle.shell_words.specs.Words as commands;
@@ -13,7 +14,7 @@ use path_tree::{Path, PathFault};
 use std::alloc::Global;
 
 /// The greatest PID of a stream; the one above it is that of stuffing (ISO/IEC 13818-1, 2.4.3.3).
-pub const MOST_PID: u32 = 8_190;
+pub const MOST_PID: u32 = carousel_profile::MOST_PID as u32;
 
 /// The most paths that are watched. This project's own limit.
 pub const MOST_WATCHED: usize = 1_024;
@@ -86,7 +87,7 @@ fn are_digits(text: &[u8]) -> bool
 pub fn paths(alloc: Global, words: &[String]) -> Result<Vec<Path>, WordsFault>
     requires { 0 < length words.now }
     ensures { Gives (λ paths. paths.items) commands.cause result
-        (commands.or_misfit (values.paths_in (map string_bytes words.now))) }
+        (commands.or_misfit (values.paths_in (word_bytes words.now))) }
 {
     let mut paths = Vec::new(alloc);
     for word in words {
@@ -99,7 +100,7 @@ pub fn paths(alloc: Global, words: &[String]) -> Result<Vec<Path>, WordsFault>
 pub fn watched(alloc: Global, words: &[String]) -> Result<Vec<Path>, WordsFault>
     requires { 0 < length words.now }
     ensures gives { Gives (λ paths. paths.items) commands.cause result
-        (commands.or_misfit (values.watched_in (map string_bytes words.now))) }
+        (commands.or_misfit (values.watched_in (word_bytes words.now))) }
     ensures few { IfOk result (λ paths. length paths.items ≤ MOST_WATCHED) }
 {
     if words.len() <= MOST_WATCHED {

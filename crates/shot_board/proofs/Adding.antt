@@ -5,7 +5,8 @@ use Rattle.std.proofs.lemmas.Bool.Decides.{nat_tests}
 use mathlib.Core.List.{IsPrefix}
 use prog.Atomic.{either}
 use Rattle.logbook.specs.Pages.{Cell, cell, keeps, no_nib, step, Moves, Goes}
-use Rattle.shot_board.specs.Shots.{IsKept, Adds, AreNumbered}
+use Rattle.shot_board.specs.Shots.{AreNumbered}
+use Rattle.shot_board.specs.Inner.Shots.{IsKept, Adds}
 use Rattle.shot_board.proofs.Prefixes.{prefix_whole}
 use Rattle.shot_board.proofs.Lists.{numbered_push}
 

@@ -1,5 +1,5 @@
 -- What a clause says of a shower, and of a new board.
-use Rattle.std.specs.Prelude.{◌≡◌, ℕ, List}
+use Rattle.std.specs.Prelude.{◌≡◌, ◌≤◌, ◌+◌, ℕ, List, length}
 use Rattle.std.specs.Option.{ForSome}
 use Rattle.logbook.specs.Pages.{Book}
 use Rattle.left_right.specs.declared.Absorb.{Ghosts}
@@ -28,6 +28,14 @@ module _ {S X : Type 0} {takes : Ghosts (Shown S) (Shown S) X} where
   -- the same board, with the same greatest number
   abbrev pub IsSameBoard : Shower S X takes → Shower S X takes → Type 0
   IsSameBoard s t = (shower_board t ≡ shower_board s) × (most_by t ≡ most_by s)
+
+  -- nothing more was shown
+  abbrev pub ShowsNothing : Shower S X takes → Shower S X takes → Type 0
+  ShowsNothing s t = (shown_by t ≡ shown_by s) × IsSameBoard s t
+
+  -- it may show so many shots more
+  abbrev pub HasRoomFor : Shower S X takes → ℕ → Type 0
+  HasRoomFor s n = length (shown_by s) + n ≤ most_by s + 1
 
   -- a viewer of the shower's board that knows the shower's list, and was told of no other
   abbrev pub IsNewViewer : Shower S X takes → Viewer S → Type 0

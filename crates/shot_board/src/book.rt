@@ -9,7 +9,7 @@ pub struct Law;
 impl<S: Numbered> Rule<S, u64> for Law {
     ghost use Rattle.std.specs.Prelude.{[]};
     ghost use base.Fml.{ftrue};
-    ghost use Rattle.shot_board.specs.Shots.{IsKept};
+    ghost use Rattle.shot_board.specs.Inner.Shots.{IsKept};
 
     ghost holds = { IsKept S.number };
 
@@ -37,7 +37,7 @@ impl<S: Numbered> Gain<S, u64> for Nothing {
 pub struct Add;
 
 impl<S: Numbered> Play<S, u64> for Add {
-    ghost use Rattle.shot_board.specs.Shots.{Adds};
+    ghost use Rattle.shot_board.specs.Inner.Shots.{Adds};
 
     ghost then = { Adds };
 }

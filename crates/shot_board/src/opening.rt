@@ -2,7 +2,8 @@ ghost use Rattle.std.specs.Prelude.{◌≡◌, ◌≤◌, true, [], ◌∷◌, d
 ghost use Rattle.std.specs.Arc.{arc_value};
 ghost use Rattle.std.specs.Vec.{vec_capacity};
 ghost use Rattle.left_right.specs.Sides.{view};
-ghost use Rattle.shot_board.specs.Shots.{head_of, Each};
+ghost use Rattle.shot_board.specs.Shots.{Each};
+ghost use Rattle.shot_board.specs.Inner.Shots.{head_of};
 ghost use Rattle.shot_board.specs.Inner.Names.{name_of};
 ghost use Rattle.shot_board.specs.Inner.Seating.{IsSeated};
 ghost use Rattle.shot_board.specs.Showers.{shown_by, most_by, IsOnTheBoard, IsNewViewer};

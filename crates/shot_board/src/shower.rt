@@ -1,7 +1,7 @@
 ghost use Rattle.std.specs.Prelude.{◌≡◌, ◌+◌, ◌≤◌, true, false, [], ◌∷◌, ◌++◌, drop, length, is_some, IfSome, OnOk, OnErr, IfErr};
 ghost use Rattle.std.specs.Option.{ForSome};
 ghost use Rattle.std.specs.Arc.{arc_value};
-ghost use Rattle.shot_board.specs.Shots.{head_of};
+ghost use Rattle.shot_board.specs.Inner.Shots.{head_of};
 
 use crate::book::{Add, Law, Nothing};
 use crate::front::Front;

@@ -16,7 +16,8 @@ use Rattle.generation_catalogue.specs.declared.entry.DrawFault.{DrawFault}
 use Rattle.station.specs.declared.kept.Kept.{Kept}
 use Rattle.station.specs.declared.kept.KeptItem.{KeptItem}
 use Rattle.station.specs.declared.kept.KeptItem.TheVariants.{Setting, Entry}
-use Rattle.station.specs.Items.{items_of, entries_in, carousel_in, weights_in, entry_places}
+use Rattle.station.specs.Items.{items_of, entries_in, carousel_in, entry_places}
+use Rattle.station.specs.Inner.Items.{weights_in}
 use Rattle.station.specs.Kept.{list_of}
 use Rattle.history_lock.specs.declared.lock.HistoryLock.{HistoryLock}
 use Rattle.station.specs.Passes.{entries_seen, own_entries}

@@ -9,7 +9,8 @@ use Rattle.generation_catalogue.specs.History.{CatalogueState}
 use Rattle.station.specs.declared.kept.Kept.{Kept}
 use Rattle.station.specs.declared.kept.KeptItem.{KeptItem}
 use Rattle.station.specs.declared.kept.KeptItem.TheVariants.{Setting}
-use Rattle.station.specs.Items.{items_of, entries_in, carousel_in, weights_in, is_opening, entry_places}
+use Rattle.station.specs.Items.{items_of, entries_in, carousel_in, entry_places}
+use Rattle.station.specs.Inner.Items.{weights_in, is_opening}
 use Rattle.station.specs.Kept.{list_of}
 use Rattle.station.specs.Passes.{entries_seen, own_entries, owners_of}
 use Rattle.station.proofs.Listed.{entries_of_items, begins_entries, length_items, times_entry, opening_is}

@@ -8,7 +8,8 @@ use Rattle.generation_catalogue.specs.History.{CatalogueState}
 use Rattle.generation_catalogue.specs.declared.entry.Entry.{Entry as CatalogueEntry}
 use Rattle.station.specs.declared.kept.KeptItem.{KeptItem}
 use Rattle.station.specs.declared.kept.KeptItem.TheVariants.{Setting, Entry}
-use Rattle.station.specs.Items.{items_of, entries_in, carousel_in, weights_in, is_opening, entry_places}
+use Rattle.station.specs.Items.{items_of, entries_in, carousel_in, entry_places}
+use Rattle.station.specs.Inner.Items.{weights_in, is_opening}
 
 entries_of_entries : (es : List CatalogueEntry) → entries_in (map Entry es) ≡ es
 entries_of_entries [] = refl

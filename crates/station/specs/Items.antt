@@ -1,5 +1,5 @@
 -- The list that a kept catalogue stands for, and the entries in it. All of it is this project's own.
-use Rattle.std.specs.Prelude.{ℕ, zero, suc, Bool, true, false, List, [], ◌∷◌, map}
+use Rattle.std.specs.Prelude.{ℕ, zero, suc, List, [], ◌∷◌, map}
 use Rattle.generation_catalogue.specs.History.{CatalogueState}
 use Rattle.generation_catalogue.specs.declared.entry.Entry.{Entry as CatalogueEntry}
 use Rattle.station.specs.declared.kept.KeptItem.{KeptItem}
@@ -19,16 +19,6 @@ entries_in (Entry e ∷ items) = e ∷ entries_in items
 abbrev pub carousel_in : List KeptItem → ℕ
 carousel_in (Setting carousel weights ∷ items) = carousel
 carousel_in items = 0
-
--- and its weights
-abbrev pub weights_in : List KeptItem → List ℕ
-weights_in (Setting carousel weights ∷ items) = weights
-weights_in items = []
-
--- the items of a catalogue with no entry
-abbrev pub is_opening : List KeptItem → Bool
-is_opening (Setting carousel weights ∷ []) = true
-is_opening items = false
 
 -- the places of entries, which are counted from 0 after the setting, out of places of items
 abbrev pub entry_places : List ℕ → List ℕ

@@ -1,8 +1,7 @@
 // The history as the lock keeps it, and the list that it stands for.
 ghost use Rattle.std.specs.Prelude.{◌≡◌, IfOk, length, ◌≤◌};
 ghost use Rattle.std.specs.Arc.{arc_value};
-ghost use Rattle.std.specs.List.{All, Contains};
-ghost use Rattle.generation.specs.Layouts.{items_of as items_in};
+ghost use Rattle.generation.specs.Layouts.{AreItemsOf};
 ghost use Rattle.generation_catalogue.specs.History.{IsHistory};
 ghost use Rattle.generation_catalogue.specs.Calls.{IsCommitted, IsDrawn};
 ghost use Rattle.cycle_planner.specs.declared.TheConstants.{MOST_DRAWN};
@@ -58,8 +57,7 @@ impl Kept {
         ensures history { IsHistory self.old.journal }
         ensures call { IsDrawn self.old.journal n result self.new.journal }
         ensures some { IfOk result (λ b. (1 ≤ length b.items.items) × (length b.items.items ≤ n)) }
-        ensures items { IfOk result (λ b.
-            All (λ item. Contains (items_in (arc_value b.generation)) item) b.items.items) }
+        ensures items { IfOk result (λ b. AreItemsOf (arc_value b.generation) b.items.items) }
     {
         self.journal.entries();
         self.journal.draw(weigh, n)

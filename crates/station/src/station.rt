@@ -1,13 +1,12 @@
 ghost use Rattle.std.specs.Prelude.{◌≡◌, ℕ, ◌≤◌, ◌+◌, length, true, false, IfOk};
 ghost use Rattle.std.specs.Arc.{arc_value};
-ghost use Rattle.std.specs.List.{All, Contains};
-ghost use Rattle.generation.specs.Layouts.{items_of as items_in};
+ghost use Rattle.generation.specs.Layouts.{AreItemsOf};
 ghost use Rattle.generation_catalogue.specs.Calls.{IsCommitted, IsDrawn};
 ghost use Rattle.generation_catalogue.specs.History.{outcome_of, is_entered, draws_of};
 ghost use Rattle.generation_catalogue.specs.declared.entry.Entry.TheVariants as entries;
 ghost use Rattle.history_lock.specs.History.{Begins, Each, once_within};
 ghost use Rattle.history_lock.specs.Passes.{number_of, opening_of};
-ghost use Rattle.station.specs.Items.{is_opening, weights_in};
+ghost use Rattle.station.specs.Inner.Items.{is_opening, weights_in};
 ghost use Rattle.station.specs.Kept.{list_of};
 ghost use Rattle.cycle_planner.specs.declared.TheConstants.{MOST_DRAWN};
 ghost use Rattle.generation_catalogue.specs.declared.journal.TheConstants.{MOST_DRAWS};
@@ -108,8 +107,7 @@ impl Station {
         ensures full { IfFull result (λ draws.
             (draws ≡ MOST_DRAWS) × (MOST_DRAWS ≤ draws_of (seen_by self.now pass.new))) }
         ensures some { IfOk result (λ b. (1 ≤ length b.items.items) × (length b.items.items ≤ n)) }
-        ensures items { IfOk result (λ b.
-            All (λ item. Contains (items_in (arc_value b.generation)) item) b.items.items) }
+        ensures items { IfOk result (λ b. AreItemsOf (arc_value b.generation) b.items.items) }
     {
         let mut hold = self.lock.hold(rt, pass);
         let answer = hold.value().draw(&self.weigh, n);

@@ -18,13 +18,8 @@ view p = record { pid = p.pid; start = p.start; counter = p.counter; payload = p
 abbrev pub control : List ℕ → ℕ
 control bytes = slice_index bytes 3 / 16 % 4
 
--- the bytes after the header of four, and after the adaptation field's length and its bytes
-abbrev pub payload_of : List ℕ → List ℕ
-payload_of bytes =
-    if control bytes == 1 then drop 4 bytes
-    else (if control bytes == 3 then drop (5 + slice_index bytes 4) bytes else [])
-
--- the fields, or the first fault that holds
+-- the fields, or the first fault that holds; the payload are the bytes after the header of four, and after the
+-- adaptation field's length and its bytes
 abbrev pub parse_packet : List ℕ → Result Fields PacketFault
 parse_packet bytes =
     if not (slice_index bytes 0 == 0x47) then Err NoSync
@@ -36,7 +31,8 @@ parse_packet bytes =
       pid = slice_index bytes 1 % 32 * 256 + slice_index bytes 2;
       start = slice_index bytes 1 / 64 % 2 == 1;
       counter = slice_index bytes 3 % 16;
-      payload = payload_of bytes;
+      payload = if control bytes == 1 then drop 4 bytes
+          else (if control bytes == 3 then drop (5 + slice_index bytes 4) bytes else []);
     })))))
 
 abbrev pub bit_of : Bool → ℕ

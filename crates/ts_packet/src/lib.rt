@@ -13,11 +13,11 @@
 //! ```
 #![tactic(auto)]
 
-ghost use Rattle.std.specs.Prelude.{◌≡◌, ◌<◌, ◌≤◌, Err, IfOk, MatchResult, Ok, length, slice_index};
+ghost use Rattle.std.specs.Prelude.{◌≡◌, ◌<◌, ◌≤◌, Err, IfOk, MatchResult, Ok, length, slice_index, ◌+◌, ◌==◌, [], drop, if◌then◌else◌};
 ghost use Rattle.ts_packet.specs.Packets.{view, control, parse_packet, packet_bytes};
-ghost use Rattle.ts_packet.specs.Packets as packets;
 ghost use Rattle.ts_packet.specs.Fates.{arrival_of, flip_bit};
 
+use carousel_profile::PACKET_LENGTH;
 use thiserror::Error;
 
 /// The first byte of each packet.
@@ -73,12 +73,12 @@ pub enum Fate {
 }
 
 /// The bits of a packet of 188 bytes.
-const PACKET_BITS: u16 = 1504;
+const PACKET_BITS: u16 = 8 * PACKET_LENGTH as u16;
 
 impl Fate {
     /// What arrives of a packet with this fate, if it arrives. It takes no memory: a packet that is changed is changed in a
     /// copy, and `packet` stays as it is. Fates are this project's own.
-    pub fn arrived(self, packet: &[u8; 188]) -> Option<[u8; 188]>
+    pub fn arrived(self, packet: &[u8; PACKET_LENGTH]) -> Option<[u8; PACKET_LENGTH]>
         ensures { result ≡ arrival_of self packet.now }
     {
         match self {
@@ -90,8 +90,8 @@ impl Fate {
 }
 
 /// The packet with one bit inverted, counted from the most significant bit of the first byte.
-fn with_bit_flipped(packet: [u8; 188], bit: u16) -> [u8; 188]
-    requires { bit < 1504 }
+fn with_bit_flipped(packet: [u8; PACKET_LENGTH], bit: u16) -> [u8; PACKET_LENGTH]
+    requires { bit < PACKET_BITS }
     ensures { result ≡ flip_bit bit packet }
 {
     let mut bytes = packet;
@@ -104,7 +104,7 @@ fn with_bit_flipped(packet: [u8; 188], bit: u16) -> [u8; 188]
 ///
 /// The payload is empty where the adaptation field control is 10, whatever the adaptation field's
 /// length is then. It takes no memory.
-pub fn parse(bytes: &[u8; 188]) -> Result<Packet<'_>, PacketFault>
+pub fn parse(bytes: &[u8; PACKET_LENGTH]) -> Result<Packet<'_>, PacketFault>
     ensures grammar { MatchResult result (λ p. parse_packet bytes.now ≡ Ok (view p)) (λ fault.
         parse_packet bytes.now ≡ Err fault) }
     ensures ranges { IfOk result (λ p.
@@ -136,9 +136,11 @@ pub fn parse(bytes: &[u8; 188]) -> Result<Packet<'_>, PacketFault>
 
 /// The bytes after the header and the adaptation field of a packet without a fault.
 fn payload_of(bytes: &[u8]) -> &[u8]
-    requires whole { length bytes.now ≡ 188 }
+    requires whole { length bytes.now ≡ PACKET_LENGTH }
     requires field { control bytes.now ≡ 3 → slice_index bytes.now 4 ≤ 182 }
-    ensures { result.now ≡ packets.payload_of bytes.now }
+    ensures { result.now
+        ≡ (if control bytes.now == 1 then drop 4 bytes.now else
+        (if control bytes.now == 3 then drop (5 + slice_index bytes.now 4) bytes.now else [])) }
 {
     match bytes[3] >> 4 & 3 {
         1 => &bytes[4..],
@@ -151,14 +153,14 @@ fn payload_of(bytes: &[u8]) -> &[u8]
 /// control 0.
 ///
 /// `pid` is 0 to 8,191 and `counter`, the continuity counter, 0 to 15. It takes no memory.
-pub fn build(pid: u16, start: bool, counter: u8, payload: &[u8; 184]) -> [u8; 188]
+pub fn build(pid: u16, start: bool, counter: u8, payload: &[u8; 184]) -> [u8; PACKET_LENGTH]
     requires pid { pid < 8192 }
     requires counter { counter < 16 }
     ensures bytes { result ≡ packet_bytes pid start counter payload.now }
     ensures parses { parse_packet result
         ≡ Ok (record { pid = pid; start = start; counter = counter; payload = payload.now }) }
 {
-    let mut bytes = [0; 188];
+    let mut bytes = [0; PACKET_LENGTH];
     bytes[0] = SYNC;
     bytes[1] = if start { 0x40 } else { 0 } | (pid >> 8) as u8;
     bytes[2] = (pid & 0xFF) as u8;

@@ -4,7 +4,7 @@ use Rattle.std.proofs.lemmas.Bool.{eq-eqb, true≢false}
 use Rattle.dsi_dii.specs.Controls.{DiiFields}
 use Rattle.module_cache.specs.Joining.{CacheState, Outline, outline, joining, joined, turned}
 use Rattle.module_cache.proofs.CallerLemmas.{outline_joining}
-use Rattle.tuner_core.specs.Spans.{version}
+use Rattle.tuner_core.specs.Turns.{version}
 use Rattle.tuner_core.specs.Stands.{TurnState, is_anew, held_outlines, turn_from, join_from, after_dii}
 use Rattle.tuner_core.specs.declared.told.Fed.{Fed}
 use Rattle.tuner_core.specs.declared.told.Fed.TheVariants.{Changed}

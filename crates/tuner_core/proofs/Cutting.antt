@@ -5,23 +5,23 @@ use Rattle.std.proofs.lemmas.List.Elements.{All-append, All-cons, All-nil, filte
 use Rattle.std.proofs.lemmas.Bool.{cond-false, eqb-true}
 use Rattle.dsi_dii.specs.Controls.{DiiFields}
 use Rattle.module_cache.specs.Joining.{Outline, outline}
-use Rattle.module_cache.specs.Turns.{admitted, heard_by, continued, with_joined}
+use Rattle.module_cache.specs.Turns.{admitted, heard_by, continued, with_joined, Turn}
 use Rattle.tuner_core.specs.Heard.{Heard, Skipped, NoControl, NoBlock, ADsi, ADii, ABlock}
 use Rattle.tuner_core.specs.Said.{is_sound, sound_in}
-use Rattle.tuner_core.specs.Spans.{Span, is_near, version, turning_after, turning_of, or_first, from_first, put_together, openings}
-use Rattle.tuner_core.specs.Turns.{Turn, turnings, outlines, is_room, turn_after, turns_of, dii_after, joining_by, joining_in, AreJoined, AreOfOneVersion, AreKeptWhereNear, SpansAreOfTheList}
+use Rattle.module_cache.specs.Spans.{Span}
+use Rattle.tuner_core.specs.Turns.{is_near, version, turning_after, turning_of, or_first, from_first, put_together, openings, turnings, outlines, is_room, turn_after, turns_of, joining_by, joining_in, AreJoined, AreOfOneVersion, AreKeptWhereNear, SpansAreOfTheList}
 
 -- ---- those that join, with something more at the end
 
 -- the last that is heard joins
-abbrev joined_last : List Outline → ℕ → Bool → Option DiiFields → List Span
+abbrev joined_last : List Outline → ℕ → Bool → Option DiiFields → List (Span Heard)
 joined_last os v kept (Some d) = cond (eqb (version d) v && is_room os d) (record { dii = d; kept = kept; since = [] } ∷ []) []
 joined_last os v kept None = []
 
-abbrev Grows : Heard → List Outline → ℕ → Bool → List Span → List Span → Type 0
+abbrev Grows : Heard → List Outline → ℕ → Bool → List (Span Heard) → List (Span Heard) → Type 0
 Grows h os v kept more js = more ≡ map (heard_by h) js ++ joined_last (os ++ outlines js) v kept (sound_in h)
 
-abbrev as_span : DiiFields → Bool → List Heard → Span
+abbrev as_span : DiiFields → Bool → List Heard → Span Heard
 as_span d kept since = record { dii = d; kept = kept; since = since }
 
 joining_more : (hs : List Heard) (h : Heard) (os : List Outline) (v : ℕ) (kept : Bool) → Grows h os v kept (joining_in os v kept (hs ++ h ∷ [])) (joining_in os v kept hs)
@@ -48,36 +48,36 @@ joining_more (x ∷ hs) h os v kept = go (sound_in x) (joining_more hs h os v ke
 
 -- ---- one candidate more
 
-joined_grows : (t : Turn) (ts : List Turn) (h : Heard) → AreJoined (t ∷ ts)
+joined_grows : (t : Turn Heard) (ts : List (Turn Heard)) (h : Heard) → AreJoined (t ∷ ts)
     → Grows h (outline t.turning.dii ∷ []) (version t.turning.dii) t.turning.kept (joining_in (outline t.turning.dii ∷ []) (version t.turning.dii) t.turning.kept (t.turning.since ++ h ∷ [])) t.joined
 joined_grows t ts h a =
     joining_more t.turning.since h (outline t.turning.dii ∷ []) (version t.turning.dii) t.turning.kept
     ∙ ap (λ js. map (heard_by h) js ++ joined_last (outline t.turning.dii ∷ outlines js) (version t.turning.dii) t.turning.kept (sound_in h)) (sym a.0)
 
-passed_joined : (t : Turn) (ts : List Turn) (h : Heard) → joined_last (outlines (admitted t)) (version t.turning.dii) t.turning.kept (sound_in h) ≡ [] → AreJoined (t ∷ ts) → AreJoined (continued (t ∷ ts) h)
+passed_joined : (t : Turn Heard) (ts : List (Turn Heard)) (h : Heard) → joined_last (outlines (admitted t)) (version t.turning.dii) t.turning.kept (sound_in h) ≡ [] → AreJoined (t ∷ ts) → AreJoined (continued (t ∷ ts) h)
 passed_joined t ts h e a = (sym (joined_grows t ts h a ∙ ap (λ js. map (heard_by h) t.joined ++ js) e ∙ append-nil (map (heard_by h) t.joined)), a.1)
 
-one_joined : (t : Turn) (ts : List Turn) (d : DiiFields) → joined_last (outlines (admitted t)) (version t.turning.dii) t.turning.kept (sound_in (ADii d)) ≡ as_span d t.turning.kept [] ∷ []
+one_joined : (t : Turn Heard) (ts : List (Turn Heard)) (d : DiiFields) → joined_last (outlines (admitted t)) (version t.turning.dii) t.turning.kept (sound_in (ADii d)) ≡ as_span d t.turning.kept [] ∷ []
     → AreJoined (t ∷ ts) → AreJoined (with_joined (continued (t ∷ ts) (ADii d)) d)
 one_joined t ts d e a = (sym (joined_grows t ts (ADii d) a ∙ ap (λ js. map (heard_by (ADii d)) t.joined ++ js) e), a.1)
 
 -- a DII: sound or not, of the version or not, with room for it or not
-dii_joined : (t : Turn) (ts : List Turn) (d : DiiFields) → AreJoined (t ∷ ts) → (s v r : Bool) → is_sound d ≡ s → eqb (version d) (version t.turning.dii) ≡ v → is_room (outlines (admitted t)) d ≡ r
-    → AreJoined (dii_after (t ∷ ts) d)
+dii_joined : (t : Turn Heard) (ts : List (Turn Heard)) (d : DiiFields) → AreJoined (t ∷ ts) → (s v r : Bool) → is_sound d ≡ s → eqb (version d) (version t.turning.dii) ≡ v → is_room (outlines (admitted t)) d ≡ r
+    → AreJoined (turn_after (t ∷ ts) (ADii d))
 dii_joined t ts d a false v r e f g = rw e (passed_joined t ts (ADii d) (rw e refl) a)
 dii_joined t ts d a true false r e f g = rw (e, f) (refl, a)
 dii_joined t ts d a true true true e f g = rw (e, f, g) (one_joined t ts d (rw (e, f, g) refl) a)
 dii_joined t ts d a true true false e f g = rw (e, f, g) (passed_joined t ts (ADii d) (rw (e, f, g) refl) a)
 
-first_joined : (d : DiiFields) (s : Bool) → is_sound d ≡ s → AreJoined (dii_after [] d)
+first_joined : (d : DiiFields) (s : Bool) → is_sound d ≡ s → AreJoined (turn_after [] (ADii d))
 first_joined d true e = rw e (refl, tt)
 first_joined d false e = rw e tt
 
-continued_joined : (ts : List Turn) (h : Heard) → sound_in h ≡ None → AreJoined ts → AreJoined (continued ts h)
+continued_joined : (ts : List (Turn Heard)) (h : Heard) → sound_in h ≡ None → AreJoined ts → AreJoined (continued ts h)
 continued_joined [] h e a = tt
 continued_joined (t ∷ ts) h e a = passed_joined t ts h (ap (joined_last (outlines (admitted t)) (version t.turning.dii) t.turning.kept) e) a
 
-after_joined : (ts : List Turn) (h : Heard) → AreJoined ts → AreJoined (turn_after ts h)
+after_joined : (ts : List (Turn Heard)) (h : Heard) → AreJoined ts → AreJoined (turn_after ts h)
 after_joined [] (ADii d) a = first_joined d (is_sound d) refl
 after_joined (t ∷ ts) (ADii d) a = dii_joined t ts d a (is_sound d) (eqb (version d) (version t.turning.dii)) (is_room (outlines (admitted t)) d) refl refl refl
 after_joined ts (ABlock b) a = continued_joined ts (ABlock b) refl a
@@ -86,27 +86,27 @@ after_joined ts (Skipped c) a = continued_joined ts (Skipped c) refl a
 after_joined ts (NoControl c) a = continued_joined ts (NoControl c) refl a
 after_joined ts (NoBlock c) a = continued_joined ts (NoBlock c) refl a
 
-all_joined : (ts : List Turn) (hs : List Heard) → AreJoined ts → AreJoined (fold turn_after ts hs)
+all_joined : (ts : List (Turn Heard)) (hs : List Heard) → AreJoined ts → AreJoined (fold turn_after ts hs)
 all_joined ts [] a = a
 all_joined ts (h ∷ hs) a = all_joined (turn_after ts h) hs (after_joined ts h a)
 
 -- ---- the cuts
 
 -- after the newest turn
-record Goes (t : Turn) (ts : List Turn) (hs : List Heard) : Type 0 where
+record Goes (t : Turn Heard) (ts : List (Turn Heard)) (hs : List Heard) : Type 0 where
   pub cut : openings (turnings (fold turn_after (t ∷ ts) hs)) ≡ openings (turnings (t ∷ ts)) ++ turning_after (version t.turning.dii) (filter_map sound_in hs)
   pub whole : put_together (turnings (fold turn_after (t ∷ ts) hs)) ≡ put_together (turnings (t ∷ ts)) ++ hs
 
-abbrev as_turn : Heard → Turn → List Span → Turn
+abbrev as_turn : Heard → Turn Heard → List (Span Heard) → Turn Heard
 as_turn h t js = record { turning = heard_by h t.turning; joined = js }
 
-longer : (t : Turn) (ts : List Turn) (h : Heard) (js : List Span) (hs : List Heard) → put_together (turnings (as_turn h t js ∷ ts)) ++ hs ≡ put_together (turnings (t ∷ ts)) ++ h ∷ hs
+longer : (t : Turn Heard) (ts : List (Turn Heard)) (h : Heard) (js : List (Span Heard)) (hs : List Heard) → put_together (turnings (as_turn h t js ∷ ts)) ++ hs ≡ put_together (turnings (t ∷ ts)) ++ h ∷ hs
 longer t ts h js hs =
     ap (λ xs. xs ++ hs) (sym (append_assoc (put_together (turnings ts)) (ADii t.turning.dii ∷ t.turning.since) (h ∷ [])))
     ∙ append_assoc (put_together (turnings ts) ++ ADii t.turning.dii ∷ t.turning.since) (h ∷ []) hs
 
 -- what doesn't turn
-stays_in : (t : Turn) (ts : List Turn) (h : Heard) (js : List Span) (hs : List Heard) → turn_after (t ∷ ts) h ≡ as_turn h t js ∷ ts
+stays_in : (t : Turn Heard) (ts : List (Turn Heard)) (h : Heard) (js : List (Span Heard)) (hs : List Heard) → turn_after (t ∷ ts) h ≡ as_turn h t js ∷ ts
     → turning_after (version t.turning.dii) (cons_option (sound_in h) (filter_map sound_in hs)) ≡ turning_after (version t.turning.dii) (filter_map sound_in hs)
     → Goes (as_turn h t js) ts hs → Goes t ts (h ∷ hs)
 stays_in t ts h js hs e f g = record {
@@ -114,11 +114,11 @@ stays_in t ts h js hs e f g = record {
   whole = ap (λ us. put_together (turnings (fold turn_after us hs))) e ∙ g.whole ∙ longer t ts h js hs;
 }
 
-abbrev new_turn : DiiFields → Bool → Turn
+abbrev new_turn : DiiFields → Bool → Turn Heard
 new_turn d kept = record { turning = as_span d kept []; joined = [] }
 
 -- a DII: sound or not, of the version or not, with room for it or not
-by_dii : (t : Turn) (ts : List Turn) (d : DiiFields) (hs : List Heard) → ((u : Turn) (us : List Turn) → Goes u us hs)
+by_dii : (t : Turn Heard) (ts : List (Turn Heard)) (d : DiiFields) (hs : List Heard) → ((u : Turn Heard) (us : List (Turn Heard)) → Goes u us hs)
     → (s v r : Bool) → is_sound d ≡ s → eqb (version d) (version t.turning.dii) ≡ v → is_room (outlines (admitted t)) d ≡ r → Goes t ts (ADii d ∷ hs)
 by_dii t ts d hs rest false v r e f g = stays_in t ts (ADii d) (map (heard_by (ADii d)) t.joined) hs (rw e refl) (rw e refl) (rest _ _)
 by_dii t ts d hs rest true true true e f g =
@@ -134,7 +134,7 @@ by_dii t ts d hs rest true false r e f g =
       whole = ap (λ us. put_together (turnings (fold turn_after us hs))) opened ∙ g.whole ∙ append_assoc (put_together (turnings (t ∷ ts))) (ADii d ∷ []) hs;
     }
 
-goes : (t : Turn) (ts : List Turn) (hs : List Heard) → Goes t ts hs
+goes : (t : Turn Heard) (ts : List (Turn Heard)) (hs : List Heard) → Goes t ts hs
 goes t ts [] = record { cut = sym (append-nil (openings (turnings (t ∷ ts)))); whole = sym (append-nil (put_together (turnings (t ∷ ts)))) }
 goes t ts (ADii d ∷ hs) =
     by_dii t ts d hs (λ u us. goes u us hs) (is_sound d) (eqb (version d) (version t.turning.dii)) (is_room (outlines (admitted t)) d) refl refl refl
@@ -170,7 +170,7 @@ cuts (NoBlock c ∷ hs) = nothing_yet (NoBlock c) hs refl refl (cuts hs)
 
 -- ---- the versions in a span, and what is kept
 
-record Steady (ts : List Turn) : Type 0 where
+record Steady (ts : List (Turn Heard)) : Type 0 where
   pub one : AreOfOneVersion ts
   pub near : AreKeptWhereNear ts
 
@@ -192,12 +192,12 @@ since_more first since h e a =
     subst (All (IsAlike first)) (sym (filter_map-append sound_in since (h ∷ [])))
     (All-append (IsAlike first) (filter_map sound_in since) (cons_option (sound_in h) []) a (one_more first (sound_in h) e))
 
-heard_steady : (t : Turn) (ts : List Turn) (h : Heard) (js : List Span) → IsNoOther t.turning.dii (sound_in h) → Steady (t ∷ ts) → Steady (as_turn h t js ∷ ts)
+heard_steady : (t : Turn Heard) (ts : List (Turn Heard)) (h : Heard) (js : List (Span Heard)) → IsNoOther t.turning.dii (sound_in h) → Steady (t ∷ ts) → Steady (as_turn h t js ∷ ts)
 heard_steady t ts h js e s = record { one = (since_more t.turning.dii t.turning.since h e s.one.0, s.one.1); near = s.near }
 
 -- a DII: sound or not, of the version or not, with room for it or not
-dii_steady : (t : Turn) (ts : List Turn) (d : DiiFields) → Steady (t ∷ ts) → (s v r : Bool) → is_sound d ≡ s → eqb (version d) (version t.turning.dii) ≡ v → is_room (outlines (admitted t)) d ≡ r
-    → Steady (dii_after (t ∷ ts) d)
+dii_steady : (t : Turn Heard) (ts : List (Turn Heard)) (d : DiiFields) → Steady (t ∷ ts) → (s v r : Bool) → is_sound d ≡ s → eqb (version d) (version t.turning.dii) ≡ v → is_room (outlines (admitted t)) d ≡ r
+    → Steady (turn_after (t ∷ ts) (ADii d))
 dii_steady t ts d a false v r e f g = rw e (heard_steady t ts (ADii d) (map (heard_by (ADii d)) t.joined) (rw e tt) a)
 dii_steady t ts d a true false r e f g = rw (e, f) (record { one = (All-nil (IsAlike d), a.one); near = (refl, a.near) })
 dii_steady t ts d a true true true e f g =
@@ -205,15 +205,15 @@ dii_steady t ts d a true true true e f g =
 dii_steady t ts d a true true false e f g =
     rw (e, f, g) (heard_steady t ts (ADii d) (map (heard_by (ADii d)) t.joined) (rw e (eqb-true (version d) (version t.turning.dii) f)) a)
 
-first_steady : (d : DiiFields) (s : Bool) → is_sound d ≡ s → Steady (dii_after [] d)
+first_steady : (d : DiiFields) (s : Bool) → is_sound d ≡ s → Steady (turn_after [] (ADii d))
 first_steady d true e = rw e (record { one = (All-nil (IsAlike d), tt); near = (refl, tt) })
 first_steady d false e = rw e (record { one = tt; near = tt })
 
-continued_steady : (ts : List Turn) (h : Heard) → sound_in h ≡ None → Steady ts → Steady (continued ts h)
+continued_steady : (ts : List (Turn Heard)) (h : Heard) → sound_in h ≡ None → Steady ts → Steady (continued ts h)
 continued_steady [] h e a = a
 continued_steady (t ∷ ts) h e a = heard_steady t ts h (map (heard_by h) t.joined) (rw e tt) a
 
-after_steady : (ts : List Turn) (h : Heard) → Steady ts → Steady (turn_after ts h)
+after_steady : (ts : List (Turn Heard)) (h : Heard) → Steady ts → Steady (turn_after ts h)
 after_steady [] (ADii d) a = first_steady d (is_sound d) refl
 after_steady (t ∷ ts) (ADii d) a = dii_steady t ts d a (is_sound d) (eqb (version d) (version t.turning.dii)) (is_room (outlines (admitted t)) d) refl refl refl
 after_steady ts (ABlock b) a = continued_steady ts (ABlock b) refl a
@@ -222,7 +222,7 @@ after_steady ts (Skipped c) a = continued_steady ts (Skipped c) refl a
 after_steady ts (NoControl c) a = continued_steady ts (NoControl c) refl a
 after_steady ts (NoBlock c) a = continued_steady ts (NoBlock c) refl a
 
-all_steady : (ts : List Turn) (hs : List Heard) → Steady ts → Steady (fold turn_after ts hs)
+all_steady : (ts : List (Turn Heard)) (hs : List Heard) → Steady ts → Steady (fold turn_after ts hs)
 all_steady ts [] a = a
 all_steady ts (h ∷ hs) a = all_steady (turn_after ts h) hs (after_steady ts h a)
 

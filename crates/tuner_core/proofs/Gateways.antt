@@ -6,13 +6,13 @@ use Rattle.path_tree.specs.Paths.{Bytes}
 use Rattle.path_tree.proofs.CallerLemmas.{same_name-is, same_name-refl}
 use Rattle.ior_tap.specs.Iors.{TapFields, biop_of_profiles, delivery_of_taps}
 use Rattle.ior_tap.specs.declared.Location.{Location}
-use Rattle.path_resolver.specs.Resolving.{Root}
+use Rattle.path_resolver.specs.Resolving.{target_of}
 use Rattle.path_resolver.specs.Shots.{view_gateway}
 use Rattle.path_resolver.specs.declared.shot.Gateway.{Gateway}
 use Rattle.tuner_core.specs.declared.told.Fed.{Fed}
 use Rattle.tuner_core.specs.declared.told.Fed.TheVariants.{Changed}
 use Rattle.tuner_core.specs.Heard.{Heard, Skipped, NoControl, NoBlock, ADsi, ADii, ABlock}
-use Rattle.tuner_core.specs.Said.{root_in, root_of}
+use Rattle.tuner_core.specs.Said.{root_in}
 use Rattle.tuner_core.specs.Stands.{TunerState, is_held, same_location, same_number, after_gateway, after_dsi, after_heard}
 use Rattle.tuner_core.proofs.Lists.{last_of}
 
@@ -34,10 +34,10 @@ number_is_same : (a : Option ℕ) → same_number a a ≡ true
 number_is_same (Some a) = eq-eqb a a refl
 number_is_same None = refl
 
-root_parts : (a c : Location) (b d : Option ℕ) → a ≡ c → b ≡ d → ◌≡◌ {A = Root} (record { location = a; delivery = b }) (record { location = c; delivery = d })
+root_parts : (a c : Location) (b d : Option ℕ) → a ≡ c → b ≡ d → ◌≡◌ {A = Location × Option ℕ} (a, b) (c, d)
 root_parts a c b d e f = cc
 
-held_gateway : (g : Option Gateway) (l : Location) (d : Option ℕ) → is_held g l d ≡ true → option_map view_gateway g ≡ Some (record { location = l; delivery = d })
+held_gateway : (g : Option Gateway) (l : Location) (d : Option ℕ) → is_held g l d ≡ true → option_map view_gateway g ≡ Some (l, d)
 held_gateway (Some g) l d e = let p = and_parts _ _ e in ap Some (root_parts g.location l g.delivery d (same_location_is g.location l p.0) (same_number_is g.delivery d p.1))
 held_gateway None l d e = cc
 
@@ -45,11 +45,11 @@ pub gateway_is_held : (l : Location) (d : Option ℕ) → is_held (Some (record 
 gateway_is_held l d = and_from _ _ (and_from _ _ (and_from _ _ (eq-eqb l.carousel l.carousel refl) (eq-eqb l.module l.module refl)) (same_name-refl l.key)) (number_is_same d)
 
 gateway_cases : (g : Option Gateway) (l : Location) (d : Option ℕ) (b : Bool) → is_held g l d ≡ b
-    → option_map view_gateway (after_gateway g l d).0 ≡ Some (record { location = l; delivery = d })
+    → option_map view_gateway (after_gateway g l d).0 ≡ Some (l, d)
 gateway_cases g l d true e = ap (λ x. option_map view_gateway x.0) (cond-true {A = Option Gateway × Fed} _ _ _ e) ∙ held_gateway g l d e
 gateway_cases g l d false e = ap (λ x. option_map view_gateway x.0) (cond-false {A = Option Gateway × Fed} _ _ _ e)
 
-dsi_gateway : (g : Option Gateway) (r : Option (Location × List TapFields)) → option_map view_gateway (after_dsi g r).0 ≡ last_of (root_of r) (option_map view_gateway g)
+dsi_gateway : (g : Option Gateway) (r : Option (Location × List TapFields)) → option_map view_gateway (after_dsi g r).0 ≡ last_of (target_of r) (option_map view_gateway g)
 dsi_gateway g None = refl
 dsi_gateway g (Some (l, taps)) = gateway_cases g l (delivery_of_taps taps) (is_held g l (delivery_of_taps taps)) refl
 

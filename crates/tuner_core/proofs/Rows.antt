@@ -8,7 +8,7 @@ use Rattle.path_resolver.specs.declared.answer.Answer.TheVariants as answers
 use Rattle.module_cache.specs.declared.taken.Taken.TheVariants as taken
 use Rattle.tuner_core.specs.Answers.{fed_heard}
 use Rattle.tuner_core.specs.Heard.{Heard, ADii, ABlock}
-use Rattle.tuner_core.specs.Turns.{turns_of, label_of, epoch_of, held_after}
+use Rattle.tuner_core.specs.Turns.{turns_of, epoch_of, held_after, label_in, turnings}
 use Rattle.tuner_core.specs.declared.told.Cause.TheVariants as causes
 use Rattle.tuner_core.specs.declared.told.Fed.TheVariants.{Changed, Nothing}
 
@@ -55,7 +55,7 @@ second_missing = (2, 151, None)
 -- ---- the DIIs of one identification, from turn to turn
 
 -- the versions 16,383 and 0 are one generation apart
-wrapped : (label_of (turns_of (dii 16383 2 (other ∷ []) ∷ dii 0 2 (other ∷ []) ∷ [])) ≡ Some 16384) × (epoch_of (turns_of (dii 16383 2 (other ∷ []) ∷ dii 0 2 (other ∷ []) ∷ [])) ≡ 0)
+wrapped : (label_in (turnings (turns_of (dii 16383 2 (other ∷ []) ∷ dii 0 2 (other ∷ []) ∷ []))) ≡ Some 16384) × (epoch_of (turns_of (dii 16383 2 (other ∷ []) ∷ dii 0 2 (other ∷ []) ∷ [])) ≡ 0)
 wrapped = (refl, refl)
 
 -- the DII of generation 1 and a block of it
@@ -157,7 +157,7 @@ third = (refl, refl)
 held_both : ((held_after cycle).held ≡ 1 ∷ 2 ∷ []) × ((held_after half).held ≡ 1 ∷ [])
 held_both = (refl, refl)
 
-labels : (label_of (turns_of cycle) ≡ Some 1) × ((label_of (turns_of later) ≡ Some 3) × (epoch_of (turns_of later) ≡ 0))
+labels : (label_in (turnings (turns_of cycle)) ≡ Some 1) × ((label_in (turnings (turns_of later)) ≡ Some 3) × (epoch_of (turns_of later) ≡ 0))
 labels = (refl, (refl, refl))
 
 -- the delivery's DII is held and doesn't list the module; it isn't held; it isn't known; it is of identification 0

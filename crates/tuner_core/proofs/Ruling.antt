@@ -1,11 +1,10 @@
 -- What the rules make of a DII, by cases.
 use Rattle.std.proofs.Common.{◌≡◌, Bool, true, false, cond, not, eqb, ltb, ◌&&◌, List, length, refl}
 use Rattle.dsi_dii.specs.Controls.{DiiFields}
-use Rattle.module_cache.specs.Joining.{Outline, is_there, is_apart, fits_beside}
-use Rattle.module_cache.specs.Limits.{is_within}
-use Rattle.tuner_core.specs.Spans.{identification}
+use Rattle.module_cache.specs.Joining.{Outline, is_there, is_apart, fits_beside, is_within}
+use Rattle.tuner_core.specs.Turns.{identification}
+use Rattle.tuner_core.specs.declared.turns.TheConstants.{MOST_HELD}
 use Rattle.tuner_core.specs.Stands.{ruled, is_anew}
-use Rattle.tuner_core.specs.Turns.{MOST_HELD}
 use Rattle.tuner_core.specs.declared.told.Cause.{Cause}
 use Rattle.tuner_core.specs.declared.told.Cause.TheVariants as causes
 use Rattle.tuner_core.specs.declared.told.Fed.{Fed}

@@ -7,21 +7,25 @@ use Rattle.module_cache.specs.Contents.{bytes_of}
 use Rattle.module_cache.specs.Held.{line_among}
 use Rattle.module_cache.specs.Joining.{tuned_of}
 use Rattle.module_cache.specs.Joining as joining
-use Rattle.module_cache.specs.Turns.{admitted, newest, before}
+use Rattle.module_cache.specs.Turns.{admitted, newest, before, Turn}
 use Rattle.module_cache.proofs.CallerLemmas.{bytes_among, map_map}
 use Rattle.path_tree.specs.Paths.{PathNames}
-use Rattle.path_resolver.specs.Resolving.{HeldModule, Root, answer_of}
+use Rattle.path_resolver.specs.Resolving.{HeldModule, Target, answer_of}
 use Rattle.path_resolver.specs.Shots.{Snapshot}
-use Rattle.tuner_core.specs.Heard.{as_heard}
+use Rattle.tuner_core.specs.Heard.{as_heard, Heard}
 use Rattle.tuner_core.specs.Said.{block_in}
-use Rattle.tuner_core.specs.Spans.{Span, identification, stretch}
+use Rattle.module_cache.specs.Spans.{Span}
+use Rattle.tuner_core.specs.Turns.{identification, stretch, turns_of, held_module, table_in, answer_after, snapshot_after}
 use Rattle.tuner_core.specs.Stands.{TunerState, StandsFor, held_by, modules_of, snapshot_of}
-use Rattle.tuner_core.specs.Turns.{Turn, turns_of, held_module, modules_in, table_in, answer_after, snapshot_after}
 
 module_with : ℕ → ModuleLine → Option Bytes → HeldModule
 module_with i l b = record { identification = i; line = l; bytes = b }
 
-modules_are : (s : Span) (ss : List Span) (ls : List ModuleLine)
+-- the modules of one DII of a turn that stands before these
+abbrev modules_in : List (Turn Heard) → Span Heard → List HeldModule
+modules_in ts s = map (held_module s (before s ts)) s.dii.modules
+
+modules_are : (s : Span Heard) (ss : List (Span Heard)) (ls : List ModuleLine)
     → ◌≡◌ {A = List HeldModule} (map (λ x. record { identification = (tuned_of block_in s ss).identification; line = x.line; bytes = bytes_of x.stored.content }) (map (λ l. line_among block_in (stretch s ss l) s.dii l) ls)) (map (held_module s ss) ls)
 unfolding module_with
 modules_are s ss [] = refl
@@ -30,21 +34,21 @@ modules_are s ss (l ∷ ls) =
     (ap (module_with (tuned_of block_in s ss).identification l) (bytes_among block_in (stretch s ss l) s.dii l))
     ∙ ap (λ ys. held_module s ss l ∷ ys) (modules_are s ss ls)
 
-rows_are : (ts : List Turn) (ss : List Span) → flat_map modules_of (map (λ s. tuned_of block_in s (before s ts)) ss) ≡ flat_map (modules_in ts) ss
+rows_are : (ts : List (Turn Heard)) (ss : List (Span Heard)) → flat_map modules_of (map (λ s. tuned_of block_in s (before s ts)) ss) ≡ flat_map (modules_in ts) ss
 rows_are ts [] = refl
 rows_are ts (s ∷ ss) =
     ap (λ xs. xs ++ flat_map modules_of (map (λ s. tuned_of block_in s (before s ts)) ss)) (modules_are s (before s ts) s.dii.modules)
     ∙ ap (λ ys. modules_in ts s ++ ys) (rows_are ts ss)
 
-table_is : (ts : List Turn) → flat_map modules_of (joining.held_in block_in ts) ≡ table_in ts
+table_is : (ts : List (Turn Heard)) → flat_map modules_of (joining.held_in block_in ts) ≡ table_in ts
 table_is [] = refl
 table_is (t ∷ ts) = rows_are ts (admitted t)
 
-held_is : (ts : List Turn) → map (λ u. u.identification) (joining.held_in block_in ts) ≡ map (λ s. identification s.dii) (newest ts)
+held_is : (ts : List (Turn Heard)) → map (λ u. u.identification) (joining.held_in block_in ts) ≡ map (λ s. identification s.dii) (newest ts)
 held_is [] = refl
 held_is (t ∷ ts) = map_map (λ s. tuned_of block_in s (before s ts)) (λ u. u.identification) (admitted t)
 
-same_snapshot : (number draws mark m2 epoch e2 : ℕ) (label l2 : Option ℕ) (held h2 : List ℕ) (gateway g2 : Option Root) (table t2 : List HeldModule)
+same_snapshot : (number draws mark m2 epoch e2 : ℕ) (label l2 : Option ℕ) (held h2 : List ℕ) (gateway g2 : Option Target) (table t2 : List HeldModule)
     → mark ≡ m2 → epoch ≡ e2 → label ≡ l2 → held ≡ h2 → gateway ≡ g2 → table ≡ t2
     → ◌≡◌ {A = Snapshot} (record { number = number; draws = draws; mark = mark; epoch = epoch; held = record { label = label; held = held; gateway = gateway; table = table } })
     (record { number = number; draws = draws; mark = m2; epoch = e2; held = record { label = l2; held = h2; gateway = g2; table = t2 } })

@@ -3,7 +3,7 @@ use Rattle.std.specs.Prelude.{ℕ, Bool, Result, Ok, Err, is_ok}
 use Rattle.path_tree.specs.Paths.{Bytes}
 use Rattle.ddb_block.specs.Blocks as ddb
 use Rattle.dsi_dii.specs.Controls.{DsiFields, DiiFields, Message, IsDsi, IsDii}
-use Rattle.dsi_dii.specs.ControlReading as controls
+use Rattle.dsi_dii.specs.Controls as controls
 use Rattle.dsmcc_section.specs.Sections as sections
 use Rattle.dsmcc_section.specs.declared.Table.{Table}
 use Rattle.dsmcc_section.specs.declared.Table.TheVariants.{Control, Blocks}

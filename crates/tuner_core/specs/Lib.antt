@@ -1,10 +1,9 @@
 pub mod Heard
-pub mod Hearing
 pub mod Limits
 pub mod Said
-pub mod Spans
 pub mod Turns
 pub mod LookBack
 pub mod Stands
 pub mod Answers
 pub mod TunerView
+pub mod Inner

@@ -1,17 +1,18 @@
 -- What a receiver takes out of what it hears: DIIs that it can hold, gateways, and blocks.
 use Rattle.std.specs.Prelude.{ℕ, Bool, not, ◌&&◌, List, Option, Some, None, ◌==◌, if◌then◌else◌}
 use Rattle.std.specs.List.{filter_map, last_or}
+use Rattle.std.specs.Option.{option_and_then}
 use Rattle.path_tree.specs.Paths.{Bytes}
-use Rattle.ior_tap.specs.Iors.{biop_of_profiles, delivery_of_taps, TapFields}
-use Rattle.ior_tap.specs.declared.Location.{Location}
+use Rattle.ior_tap.specs.Iors.{biop_of_profiles}
 use Rattle.ddb_block.specs.Blocks as ddb
 use Rattle.dsi_dii.specs.Controls.{DiiFields, identification_of}
 use Rattle.dsi_dii.specs.declared.ModuleLine.{ModuleLine}
-use Rattle.module_cache.specs.Limits.{is_within}
-use Rattle.module_cache.specs.LookBack as back
-use Rattle.path_resolver.specs.Resolving.{Root}
+use Rattle.module_cache.specs.Joining.{is_within}
+use Rattle.module_cache.specs.Turns.{fits}
+use Rattle.module_cache.specs.Turns as back
+use Rattle.path_resolver.specs.Resolving.{Target, target_of}
 use Rattle.tuner_core.specs.Heard.{Heard, ADsi, ADii, ABlock}
-pub use Rattle.module_cache.specs.LookBack.{fits}
+pub use Rattle.module_cache.specs.Turns.{fits}
 
 -- of an identification, and within the receiver's limits
 abbrev pub is_sound : DiiFields → Bool
@@ -25,16 +26,12 @@ abbrev pub sound_in : Heard → Option DiiFields
 sound_in (ADii d) = if_sound d
 sound_in _ = None
 
-abbrev pub root_of : Option (Location × List TapFields) → Option Root
-root_of (Some (l, taps)) = Some (record { location = l; delivery = delivery_of_taps taps })
-root_of None = None
-
-abbrev pub root_in : Heard → Option Root
-root_in (ADsi d) = root_of (biop_of_profiles d.gateway.profiles)
+abbrev pub root_in : Heard → Option Target
+root_in (ADsi d) = target_of (biop_of_profiles d.gateway.profiles)
 root_in _ = None
 
 -- the gateway of the last DSI that has one
-abbrev pub gateway_of : List Heard → Option Root
+abbrev pub gateway_of : List Heard → Option Target
 gateway_of hs = last_or None (filter_map root_in hs)
 
 abbrev pub block_in : Heard → Option ddb.Block
@@ -43,15 +40,8 @@ block_in _ = None
 
 -- the bytes of a block of this number of a module that the DII lists
 abbrev pub bytes_if_fits : DiiFields → ModuleLine → ℕ → Heard → Option Bytes
-bytes_if_fits held l b h = back.bytes_if_fits held l b (block_in h)
+bytes_if_fits held l b h = option_and_then (λ x. if fits held l b x then Some x.bytes else None) (block_in h)
 
 -- the first block that fits
 abbrev pub block_among : List Heard → DiiFields → ModuleLine → ℕ → Option Bytes
 block_among since held l b = back.block_among block_in since held l b
-
-abbrev pub blocks_among : List Heard → DiiFields → ModuleLine → List (Option Bytes)
-blocks_among since held l = back.blocks_among block_in since held l
-
--- a module's bytes, where it isn't compressed and each of its blocks is there
-abbrev pub module_among : List Heard → DiiFields → ModuleLine → Option Bytes
-module_among since held l = back.module_among block_in since held l

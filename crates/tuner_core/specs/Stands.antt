@@ -10,8 +10,7 @@ use Rattle.dsi_dii.specs.Controls.{DiiFields, distance_of}
 use Rattle.ddb_block.specs.Blocks as ddb
 use Rattle.module_cache.specs.Contents.{bytes_of, is_new}
 use Rattle.module_cache.specs.Held.{TunedState}
-use Rattle.module_cache.specs.Joining.{CacheState, empty, Outline, outline_held, is_there, is_apart, fits_beside, joined, turned, offered, taken_of, state_in}
-use Rattle.module_cache.specs.Limits.{is_within}
+use Rattle.module_cache.specs.Joining.{CacheState, empty, Outline, outline_held, is_there, is_apart, fits_beside, joined, turned, offered, taken_of, state_in, is_within}
 use Rattle.module_cache.specs.declared.taken.Taken.{Taken}
 use Rattle.module_cache.specs.declared.taken.Taken.TheVariants as taken
 use Rattle.path_resolver.specs.Resolving.{Held, HeldModule}
@@ -19,8 +18,8 @@ use Rattle.path_resolver.specs.Shots.{Snapshot, view_gateway}
 use Rattle.path_resolver.specs.declared.shot.Gateway.{Gateway}
 use Rattle.tuner_core.specs.Heard.{Heard, Skipped, NoControl, NoBlock, ADsi, ADii, ABlock, as_heard}
 use Rattle.tuner_core.specs.Said.{gateway_of, block_in}
-use Rattle.tuner_core.specs.Spans.{version, identification}
-use Rattle.tuner_core.specs.Turns.{MOST_HELD, turns_of, label_of, epoch_of}
+use Rattle.tuner_core.specs.Turns.{version, identification, turns_of, epoch_of, label_in, turnings}
+use Rattle.tuner_core.specs.declared.turns.TheConstants.{MOST_HELD}
 use Rattle.tuner_core.specs.declared.told.Cause.TheVariants as causes
 use Rattle.tuner_core.specs.declared.told.Fed.{Fed}
 use Rattle.tuner_core.specs.declared.told.Fed.TheVariants.{Changed, Nothing}
@@ -42,7 +41,7 @@ pub record StandsFor (t : TunerState) (candidates : List Bytes) : Type 0 where
   pub mark : t.mark ≡ cap_at_u64 (length candidates)
   pub gateway : option_map view_gateway t.gateway ≡ gateway_of (map as_heard candidates)
   pub cache : t.cache ≡ state_in block_in (turns_of (map as_heard candidates))
-  pub label : t.label ≡ label_of (turns_of (map as_heard candidates))
+  pub label : t.label ≡ label_in (turnings (turns_of (map as_heard candidates)))
   pub epoch : t.epoch ≡ epoch_of (turns_of (map as_heard candidates))
 
 -- the held DIIs, looking back, each with what is there of its modules
@@ -76,10 +75,6 @@ after_dsi g None = (g, Nothing causes.NoGateway)
 abbrev pub is_anew : List Outline → DiiFields → Bool
 is_anew [] d = true
 is_anew (o ∷ os) d = not (version d == o.version)
-
-abbrev pub first_version : List Outline → Option ℕ
-first_version [] = None
-first_version (o ∷ os) = Some o.version
 
 -- of the held version; `refused` gives the cause where it doesn't join
 abbrev pub ruled_same : {X : Type 0} → List Outline → DiiFields → X → (Fed → X) → X
@@ -125,10 +120,6 @@ turn_from t (o ∷ os) d =
 
 abbrev pub join_from : TurnState → DiiFields → TurnState
 join_from t d = record t { cache = joined t.cache d }
-
--- a DII of the held version
-abbrev pub after_same : TurnState → DiiFields → TurnState × Fed
-after_same t d = ruled_same {X = TurnState × Fed} (held_outlines t.cache) d (join_from t d, Changed) (λ fed. (t, fed))
 
 abbrev pub after_dii : TurnState → DiiFields → TurnState × Fed
 after_dii t d =

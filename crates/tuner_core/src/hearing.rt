@@ -2,9 +2,9 @@
 
 ghost use Rattle.std.specs.Prelude.{◌≡◌, Option, IsTrue, IfOk, OnErr};
 ghost use Rattle.ddb_block.specs.Blocks as ddb;
-ghost use Rattle.dsi_dii.specs.ControlReading as controls;
+ghost use Rattle.dsi_dii.specs.Controls as controls;
 ghost use Rattle.tuner_core.specs.Heard.{as_heard, heard_control, heard_block};
-ghost use Rattle.tuner_core.specs.Hearing.{view_told};
+ghost use Rattle.tuner_core.specs.Inner.Hearing.{view_told};
 ghost use Rattle.tuner_core.specs.Stands.{asks};
 ghost use Rattle.module_cache.specs.Joining.{CacheState};
 

@@ -26,11 +26,14 @@ mod gateway;
 mod hearing;
 mod laws;
 mod lending;
+mod limits;
 mod told;
 mod tuner;
 mod turns;
 
 pub use laws::{held_is_bounded, held_looks_back, spans_are_of_the_list};
+pub use limits::limits_are_numbers;
 pub use module_cache::Taken;
 pub use told::{Cause, Fed};
 pub use tuner::Tuner;
+pub use turns::MOST_HELD;

@@ -1,6 +1,7 @@
 ghost use Rattle.std.specs.Prelude.{◌≡◌, ◌≢◌, ◌↔◌, ◌++◌, ◌∷◌, [], List, map, IsTrue, IfOk, OnOk, OnErr};
 ghost use Rattle.std.specs.Arc.{arc_value};
 ghost use Rattle.std.specs.List.{flat_map};
+ghost use Rattle.oc_bytes.specs.Outcome.{MakesList};
 ghost use Rattle.path_tree.specs.Paths.{Bytes};
 ghost use Rattle.path_resolver.specs.Resolving.{answer_of, is_shared};
 ghost use Rattle.path_resolver.specs.Shots as shots;
@@ -104,7 +105,7 @@ fn table_of(alloc: Global, held: &[Tuned]) -> Result<Vec<Held>, NoMemory>
 
 /// The identifications of the held DIIs.
 fn identifications_of(alloc: Global, held: &[Tuned]) -> Result<Vec<u16>, NoMemory>
-    ensures { IfOk result (λ v. v.items ≡ map (λ u. u.identification) held.now) }
+    ensures { MakesList result (map (λ u. u.identification) held.now) }
 {
     let mut identifications = Vec::with_capacity(alloc, held.len())?;
     for tuned in held {

@@ -5,10 +5,10 @@ ghost use Rattle.ddb_block.specs.Blocks.{parts_view};
 ghost use Rattle.dsi_dii.specs.Controls.{view_dii};
 ghost use Rattle.module_cache.specs.Joining as joining;
 ghost use Rattle.module_cache.specs.Joining.{outline_held, taken_of};
-ghost use Rattle.module_cache.specs.Limits as limits;
 ghost use Rattle.tuner_core.specs.Stands as stands;
-ghost use Rattle.tuner_core.specs.Stands.{after_dii, after_same, after_block, first_version, turn_from, held_outlines};
-ghost use Rattle.tuner_core.specs.TunerView.{view_turns};
+ghost use Rattle.tuner_core.specs.Stands.{after_dii, after_block, turn_from, held_outlines};
+ghost use Rattle.tuner_core.specs.Inner.Stands.{after_same, first_version};
+ghost use Rattle.tuner_core.specs.Inner.TunerView.{view_turns};
 
 use crate::told::{Cause, Fed};
 use ddb_block::Parts;
@@ -19,8 +19,8 @@ use oc_bytes::NoMemory;
 /// Versions that are so many apart, or more, say nothing of the modules between them: a module's version has 8 bits.
 const FAR: u16 = 256;
 
-/// So many DIIs are held together at most.
-const MOST_HELD: usize = 16;
+/// So many DIIs of one version are held together at most. This project's own limit.
+pub const MOST_HELD: usize = 16;
 
 /// The held DIIs with their modules and what waits, and how the receiver came to them.
 #[derive(Drop)]
@@ -53,7 +53,7 @@ fn is_beside(held: &[Tuned], dii: &Dii) -> bool
 
 /// A DII turns.
 fn turn(turns: &mut Turns, dii: &Dii) -> Result<(), NoMemory>
-    requires { IsTrue (limits.is_within (view_dii dii.now)) }
+    requires { IsTrue (joining.is_within (view_dii dii.now)) }
     ensures ok { OnOk result
         (view_turns turns.new
         ≡ turn_from (view_turns turns.old) (held_outlines turns.old.cache) (view_dii dii.now)) }
@@ -86,7 +86,7 @@ fn is_anew(held: &[Tuned], dii: &Dii) -> bool
 
 /// Takes a DII of the held version: it joins, or is refused.
 fn take_same(turns: &mut Turns, dii: &Dii) -> Result<Fed, NoMemory>
-    requires { IsTrue (limits.is_within (view_dii dii.now)) }
+    requires { IsTrue (joining.is_within (view_dii dii.now)) }
     ensures ok { IfOk result (λ fed.
         (view_turns turns.new, fed) ≡ after_same (view_turns turns.old) (view_dii dii.now)) }
     ensures err { OnErr result (turns.new ≡ turns.old) }

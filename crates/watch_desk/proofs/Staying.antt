@@ -10,7 +10,7 @@ use Rattle.block_assembler.specs.Blocks.{join_all}
 use Rattle.ddb_block.specs.Blocks as ddb
 use Rattle.dsi_dii.specs.declared.ModuleLine.{ModuleLine}
 use Rattle.section_crc.specs.Crc.{crc_of}
-use Rattle.oc_bytes.specs.Lengths.{section_length}
+use Rattle.oc_bytes.specs.Numbers.{section_length}
 use Rattle.oc_bytes.specs.declared.lengths.TheConstants.{MOST_LENGTH}
 use Rattle.dsmcc_section.specs.Sections as sections
 use Rattle.dsmcc_section.specs.declared.Table.TheVariants.{Blocks as ABlocks}
@@ -20,7 +20,7 @@ use Rattle.module_cache.specs.Held.{TunedState, line_after, lines_after, tuned_a
 use Rattle.module_cache.specs.Joining.{has_line, offered_held}
 use Rattle.module_cache.specs.declared.stored.Line.{Line}
 use Rattle.path_tree.specs.Paths.{Bytes}
-use Rattle.path_resolver.specs.Resolving.{Held as HeldState, HeldModule, Root}
+use Rattle.path_resolver.specs.Resolving.{Held as HeldState, HeldModule, Target}
 use Rattle.path_resolver.specs.Shots.{Snapshot, view_held}
 use Rattle.path_resolver.specs.declared.shot.Held.{Held}
 use Rattle.tuner_core.specs.Answers.{LooksBack, fed_after, fed_heard}
@@ -232,7 +232,7 @@ numbers_stay b (t ∷ ts) = go (has_line b t) (numbers_stay b ts) where
   go true more = ap (λ (i : ℕ). i ∷ numbers_of ts) (number_stays b t)
   go false more = ap (λ (is : List ℕ). t.identification ∷ is) more
 
-same_held : (label : Option ℕ) (gateway : Option Root) (held more : List ℕ) (table next : List HeldModule) → more ≡ held → next ≡ table
+same_held : (label : Option ℕ) (gateway : Option Target) (held more : List ℕ) (table next : List HeldModule) → more ≡ held → next ≡ table
     → ◌≡◌ {A = HeldState} (record { label = label; held = more; gateway = gateway; table = next }) (record { label = label; held = held; gateway = gateway; table = table })
 same_held label gateway held more table next e f = cc
 

@@ -1,6 +1,7 @@
 ghost use Rattle.std.specs.Prelude.{◌≡◌, ◌≢◌, ◌≤◌, ◌<◌, ◌++◌, ◌∷◌, [], List, length, IfOk, IfErr, OnOk, OnErr};
 ghost use Rattle.std.specs.Arc.{arc_value};
 ghost use Rattle.std.specs.List.{All, AllPairs};
+ghost use Rattle.oc_bytes.specs.Outcome.{MakesList};
 ghost use Rattle.path_resolver.specs.Shots.{held_of};
 ghost use Rattle.path_resolver.specs.Resolving.{Held};
 ghost use Rattle.watch_desk.specs.Inner.Showing.{keeping, told_of};
@@ -83,8 +84,7 @@ impl Desk {
 
     /// Compares the answers on a shot with those that are kept, and keeps them.
     fn turn_to(&mut self, shot: &Shot) -> Result<Vec<Notice>, NoMemory>
-        ensures told { IfOk result (λ told.
-            told.items ≡ told_of (state self.old) (held_of shot.now)) }
+        ensures told { MakesList result (told_of (state self.old) (held_of shot.now)) }
         ensures kept { OnOk result (state self.new ≡ keeping (state self.old) (held_of shot.now)) }
         ensures refused { OnErr result (state self.new ≡ state self.old) }
         ensures memory { OnErr result (0 < length (state self.old).paths) }

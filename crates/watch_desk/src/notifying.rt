@@ -1,6 +1,7 @@
 //! The notices of a shot.
 
-ghost use Rattle.std.specs.Prelude.{◌≡◌, ◌≤◌, ◌<◌, ◌++◌, ◌&&◌, length, IfOk, OnOk, OnErr};
+ghost use Rattle.std.specs.Prelude.{◌≡◌, ◌≤◌, ◌<◌, ◌++◌, ◌&&◌, length, OnOk, OnErr};
+ghost use Rattle.oc_bytes.specs.Outcome.{MakesList};
 ghost use Rattle.watch_desk.specs.Prefixes.{prefixes_of};
 ghost use Rattle.watch_desk.specs.Inner.Showing.{told_from, told_to_all};
 ghost use Rattle.watch_desk.specs.Wanting.{is_wanted};
@@ -22,8 +23,8 @@ pub(crate) fn notify_all(
     requires filters { length filters.now ≤ MOST_FILTERS }
     requires paths { length paths.now ≤ MOST_WATCHED }
     requires changed { length changed.now ≡ length paths.now }
-    ensures told { IfOk result (λ v. v.items
-        ≡ told_to_all 0 (prefixes_of filters.now) paths.now changed.now) }
+    ensures told { MakesList result
+        (told_to_all 0 (prefixes_of filters.now) paths.now changed.now) }
     ensures memory { OnErr result (0 < length paths.now) }
 {
     let mut notices = Vec::new(alloc);

@@ -1,6 +1,6 @@
-ghost use Rattle.std.specs.Prelude.{◌≡◌, ◌≤◌, ◌<◌, [], length, map, IfOk, OnErr};
-ghost use Rattle.path_resolver.specs.Shots.{held_of};
-ghost use Rattle.path_resolver.specs.Resolving.{answer_of};
+ghost use Rattle.std.specs.Prelude.{◌≡◌, ◌≤◌, ◌<◌, [], length, map, OnErr};
+ghost use Rattle.oc_bytes.specs.Outcome.{MakesList};
+ghost use Rattle.path_resolver.specs.Shots.{answers_of};
 ghost use Rattle.watch_desk.specs.Inner.Showing as showing;
 ghost use Rattle.watch_desk.specs.Inner.Showing.{differs_at};
 ghost use Rattle.watch_desk.specs.declared.TheConstants.{MOST_WATCHED};
@@ -25,7 +25,8 @@ impl Model for Watched {
 
     ghost Value = { WatchedState };
 
-    ghost use Rattle.watch_desk.specs.Kept.{view_watched, IsWatched};
+    ghost use Rattle.watch_desk.specs.Kept.{view_watched};
+    ghost use Rattle.watch_desk.specs.Inner.Kept.{IsWatched};
 
     ghost view = { view_watched };
 
@@ -54,8 +55,7 @@ impl Watched {
 
     /// The answers to the paths on a shot. Each path is resolved once.
     pub(crate) fn answers_on(&self, alloc: Global, shot: &Shot) -> Result<Vec<Answer>, NoMemory>
-        ensures answers { IfOk result (λ v.
-            v.items ≡ map (answer_of (held_of shot.now)) self.now.paths) }
+        ensures answers { MakesList result (map (answers_of shot.now) self.now.paths) }
         ensures memory { OnErr result (0 < length self.now.paths) }
     {
         answers_to(alloc, &self.paths, shot)
@@ -63,7 +63,7 @@ impl Watched {
 
     /// Of each of these answers whether it isn't the one on the last shot.
     pub(crate) fn changes_to(&self, alloc: Global, now: &[Answer]) -> Result<Vec<bool>, NoMemory>
-        ensures changes { IfOk result (λ v. v.items ≡ showing.changes self.now.last now.now) }
+        ensures changes { MakesList result (showing.changes self.now.last now.now) }
         ensures memory { OnErr result (0 < length now.now) }
     {
         changes(alloc, &self.last, now)
@@ -79,7 +79,7 @@ impl Watched {
 
 /// The answers to paths on a shot.
 fn answers_to(alloc: Global, paths: &[Path], shot: &Shot) -> Result<Vec<Answer>, NoMemory>
-    ensures answers { IfOk result (λ v. v.items ≡ map (answer_of (held_of shot.now)) paths.now) }
+    ensures answers { MakesList result (map (answers_of shot.now) paths.now) }
     ensures memory { OnErr result (0 < length paths.now) }
 {
     let mut answers = Vec::with_capacity(alloc, paths.len())?;
@@ -91,7 +91,7 @@ fn answers_to(alloc: Global, paths: &[Path], shot: &Shot) -> Result<Vec<Answer>,
 
 /// Of each of these answers whether it isn't the one that is kept at its place.
 fn changes(alloc: Global, last: &[Answer], now: &[Answer]) -> Result<Vec<bool>, NoMemory>
-    ensures changes { IfOk result (λ v. v.items ≡ showing.changes last.now now.now) }
+    ensures changes { MakesList result (showing.changes last.now now.now) }
     ensures memory { OnErr result (0 < length now.now) }
 {
     let mut changed = Vec::with_capacity(alloc, now.len())?;

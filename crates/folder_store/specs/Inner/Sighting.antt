@@ -6,7 +6,7 @@ use Rattle.path_tree.specs.Paths.{Bytes, PathNames}
 use Rattle.path_tree.specs.declared.tree.TheConstants.{MOST_CONTENT}
 use Rattle.generation_catalogue.specs.declared.journal.TheConstants.{MOST_PUT_BYTES}
 use Rattle.folder_store.specs.Folders.{Entry, FolderTree}
-use Rattle.folder_store.specs.Gathering.{broken_rule}
+use Rattle.folder_store.specs.Inner.Gathering.{broken_rule}
 use Rattle.folder_store.specs.Surveys.{Stands, Mark, Look, view_standing, marks_past, marks_at, marks_below, look_from, first_of}
 use Rattle.folder_store.specs.declared.reading.ReadTree.{ReadTree}
 use Rattle.folder_store.specs.declared.sights.Sights.{Sights}

@@ -5,7 +5,8 @@ use Rattle.path_tree.specs.Paths.{Bytes}
 use Rattle.path_tree.specs.Trees.{Tree, content_at}
 use Rattle.biop_object.specs.Names.{Layout, module_in}
 use Rattle.generation.specs.Layouts.{Placed, object_bytes, module_bytes}
-use Rattle.generation.specs.View.{path_at, bytes_at, is_file_at, view_placed}
+use Rattle.generation.specs.View.{path_at, bytes_at, view_placed}
+use Rattle.generation.specs.Inner.View.{is_file_at}
 use Rattle.generation.specs.declared.objects.Placed.{Placed as CodePlaced}
 
 -- a file that isn't flagged has the bytes that stood at its path before

@@ -20,7 +20,8 @@ use Rattle.folder_store.specs.declared.reading.ReadTree.TheVariants as causes
 use Rattle.folder_store.specs.declared.surveying.Surveyed.{Surveyed}
 use Rattle.folder_store.specs.declared.surveying.SurveyFault.{SurveyFault}
 use Rattle.publication_plan.specs.Plans.{first_outcome}
-use Rattle.publication_plan.specs.Refusals.{IsNoFile, commit_line, refused_path, rule_line}
+use Rattle.publication_plan.specs.Refusals.{IsNoFile, commit_line, rule_line}
+use Rattle.publication_plan.specs.Inner.Refusals.{refused_path}
 use Rattle.publication_plan.specs.Telling.{unreadable_line}
 use Rattle.publication_plan.specs.declared.planning.PlanEnd.{PlanEnd}
 use Rattle.publication_plan.specs.declared.planning.PlanEnd.TheVariants as ends

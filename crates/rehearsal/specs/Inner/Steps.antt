@@ -1,6 +1,5 @@
 -- What the steps of a rehearsal say of each other.
-use Rattle.std.specs.Prelude.{◌≡◌, ℕ, List, [], ◌++◌, Result, Ok, Err, OnOk}
-use Rattle.std.specs.String.{string_bytes}
+use Rattle.std.specs.Prelude.{◌≡◌, ℕ, List, [], ◌++◌, Result, Ok, Err, OnOk, string_bytes}
 use Rattle.session_script.specs.Scripts.{LineFields, Fields}
 use Rattle.shell_streams.specs.Sending.{OutputState, Puts, HasPut}
 use Rattle.shell_streams.specs.declared.output.OutputFault.{OutputFault}

@@ -3,7 +3,7 @@ use Rattle.std.specs.Prelude.{◌≡◌, ◌<◌, ◌≤◌, length, Ok}
 use Rattle.ts_packet.specs.Packets.{parse_packet, view}
 use Rattle.section_stream.specs.Cuts.{Bytes}
 use Rattle.section_stream.specs.Rules.{Receiving, with_counts, jumps_from, one_more, step, takes}
-use Rattle.section_stream.specs.Steps.{count_aside}
+use Rattle.section_stream.specs.Inner.Steps.{count_aside}
 use Rattle.section_stream.specs.declared.receiver.Class.{Class}
 use Rattle.section_stream.specs.declared.receiver.Class.TheVariants.{Aside, Taken}
 

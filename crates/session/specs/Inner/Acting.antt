@@ -1,6 +1,5 @@
 -- How far a session has got.
-use Rattle.std.specs.Prelude.{◌≡◌, ℕ, ◌+◌, ◌≤◌, List, [], ◌∷◌, ◌++◌, map, length, ◌<◌, slice_index_or}
-use Rattle.std.specs.List.{All, count_by}
+use Rattle.std.specs.Prelude.{◌≡◌, ℕ, ◌+◌, ◌≤◌, List, [], ◌∷◌, ◌++◌, map, length, ◌<◌, slice_index_or, All, count_by}
 use mathlib.Core.List.{IsPrefix}
 use Rattle.path_tree.specs.Paths.{PathNames}
 use Rattle.path_tree.specs.declared.tree.Edit.{Edit}
@@ -18,8 +17,8 @@ use Rattle.session.specs.Opened.{HasOpened}
 use Rattle.session.specs.Seats.{HasCommitted, edits_of}
 use Rattle.session.specs.declared.editor.EditorSeat.{EditorSeat}
 use Rattle.session.specs.declared.reader.ReaderSeat.{ReaderSeat}
-use Rattle.session.specs.Lines.{commits_by, draws_in, opens_by, asked_from, is_draw_before}
-use Rattle.session.specs.Inner.Plans.{above, at_end, before_steps, below, during_steps, end_steps, steps}
+use Rattle.session.specs.Lines.{commits_by, draws_in, asked_from, is_draw_before}
+use Rattle.session.specs.Inner.Plans.{opens_by, above, at_end, before_steps, below, during_steps, end_steps, steps}
 
 -- ---- a session
 

@@ -1,6 +1,5 @@
 -- All seats of a session, after some of its events above `start`.
-use Rattle.std.specs.Prelude.{◌≡◌, List, map}
-use Rattle.std.specs.List.{All, Contains}
+use Rattle.std.specs.Prelude.{◌≡◌, List, map, All, Contains, []}
 use Rattle.path_resolver.specs.declared.shot.Shot.{Shot}
 use Rattle.shot_board.specs.declared.shower.Shower.{Shower}
 use Rattle.shot_board.specs.declared.shown.Shown.{Shown}
@@ -10,9 +9,14 @@ use Rattle.station.specs.declared.station.Station.{Station}
 use Rattle.carousel_world.specs.Events.{Step, Commit, Draw, Open}
 use Rattle.session.specs.Seats.{HasFed, IsDrawLine, IsEditorSeat, draw_of}
 use Rattle.session.specs.declared.cast.Cast.{Cast}
-use Rattle.session.specs.Lines.{commits_by, draws_in, opens_by}
-use Rattle.session.specs.Inner.Plans.{during_steps, end_steps}
-use Rattle.session.specs.Inner.Acting.{AreApart, EditorsStand, ReadersStand, Setting, asked_for, draws_of, editor_plan, numbers_of, planned_for, reader_plan, readers_of}
+use Rattle.session.specs.Lines.{commits_by, draws_in}
+use Rattle.session.specs.Inner.Plans.{opens_by, during_steps, end_steps, IsPlanOf}
+use Rattle.session.specs.Inner.Acting.{AreApart, EditorsStand, ReadersStand, Setting, asked_for, draws_of, editor_plan, numbers_of, planned_for, reader_plan, readers_of, IsViewerOf}
+use Rattle.shot_board.specs.Shots.{Each}
+use Rattle.session_script.specs.Parts.{script_of_parts}
+use Rattle.session_script.specs.Ranges.{AreListed, IsInRanges}
+use Rattle.session.specs.declared.whole.Start.{Start}
+use Rattle.session.specs.Shown.{HasShown}
 
 -- no two editors and no two readers share a number, and each editor's pass is one of the station
 pub record IsCast {X : _} {F : _} {g : _} (s : Station X F g) (cast : Cast) : Type 0 where
@@ -53,3 +57,13 @@ pub record AreSameActors (old new : Cast) : Type 0 where
 pub record IsBoardOf {X : Type 0} {takes : Ghosts (Shown Shot) (Shown Shot) X} (setting : Setting) (shower : Shower Shot X takes) : Type 0 where
   pub board : shower_board shower ≡ setting.board
   pub most : most_by shower ≡ draws_of setting
+
+-- ---- what a session begins with
+
+-- A start of the setting's session: the plan of its script, one shot that is shown, and nothing carried
+pub record IsBegun (setting : Setting) (shots : List Shot) (start : Start) : Type 0 where
+  pub ranges : IsInRanges (script_of_parts setting.parts)
+  pub listed : AreListed (script_of_parts setting.parts)
+  pub planned : IsPlanOf setting.parts start.plan
+  pub shown : HasShown [] start.downlink shots
+  pub viewers_are : Each (IsViewerOf setting shots) start.viewers.items

@@ -1,6 +1,5 @@
 -- What is left of a session once its threads are done, and what comes of it.
-use Rattle.std.specs.Prelude.{◌≡◌, ℕ, ◌+◌, ◌<◌, ◌≤◌, Bool, is_some, List, [], ◌∷◌, ◌++◌, map, length, slice_index_or}
-use Rattle.std.specs.List.{All}
+use Rattle.std.specs.Prelude.{◌≡◌, ℕ, ◌+◌, ◌<◌, ◌≤◌, Bool, is_some, List, [], ◌∷◌, ◌++◌, map, length, slice_index_or, All, true}
 use Rattle.path_tree.specs.Paths.{PathNames}
 use Rattle.path_tree.specs.declared.tree.Edit.{Edit}
 use Rattle.ts_packet.specs.declared.Fate.{Fate}
@@ -8,7 +7,7 @@ use Rattle.path_resolver.specs.declared.shot.Shot.{Shot}
 use Rattle.logbook.specs.Pages.{Book}
 use Rattle.open_history.specs.Opens.{ReaderView, AllAnswered, IsSameReader}
 use Rattle.station.specs.declared.station.Station.{Station}
-use Rattle.station.specs.Passes.{carousel_of, pass_count}
+use Rattle.station.specs.Passes.{carousel_of, pass_count, IsStationPass}
 use Rattle.generation_catalogue.specs.History.{CatalogueState, with_draw}
 use Rattle.generation_catalogue.specs.View.{state}
 use Rattle.carousel_world.specs.DownView.{DownlinkState}
@@ -20,15 +19,16 @@ use Rattle.history_merge.specs.Merges.{fates_view}
 use Rattle.session.specs.Chains.{DrawFields}
 use Rattle.session.specs.Shown.{HasShown}
 use Rattle.session.specs.Opened.{Asked, HasOpened}
-use Rattle.session.specs.Seats.{HasCommitted, HasFed, asked_at}
+use Rattle.session.specs.Seats.{HasCommitted, HasFed, asked_at, IsEditorSeat}
 use Rattle.session.specs.declared.editor.EditorSeat.{EditorSeat}
 use Rattle.session.specs.declared.feeder.FeederSeat.{FeederSeat}
 use Rattle.session.specs.declared.reader.ReaderSeat.{ReaderSeat}
 use Rattle.session.specs.declared.ending.Closed.{Closed}
-use Rattle.session.specs.Lines.{commits_by, draws_in, opens_by, asked_from}
-use Rattle.session.specs.Inner.Plans.{end_steps, steps}
+use Rattle.session.specs.Lines.{commits_by, draws_in, asked_from}
+use Rattle.session.specs.Inner.Plans.{opens_by, end_steps, steps}
 use Rattle.session.specs.Gathering.{IsGathered}
 use Rattle.session.specs.Inner.Acting.{Setting, done_in, draws_before, draws_of, events_in, readers_of}
+use Rattle.session.specs.declared.cast.Cast.{Cast}
 
 -- ---- when the threads are done
 
@@ -100,9 +100,8 @@ pub record HasReadLast (shots : List Shot) (seat : ReaderSeat) (pass : ReaderVie
 -- each reader did, and these are their passes
 abbrev pub AllReadLast : List Shot → List ReaderSeat → List ReaderView → Type 0
 AllReadLast shots [] [] = Unit {0}
-AllReadLast shots [] (p ∷ ps) = ⊥
-AllReadLast shots (seat ∷ seats) [] = ⊥
 AllReadLast shots (seat ∷ seats) (p ∷ ps) = HasReadLast shots seat p × AllReadLast shots seats ps
+AllReadLast shots _ _ = ⊥
 
 -- a reader of this board, which shows no more, with room for its paths for the end
 pub record MayOpenLast (board : Book) (shots : List Shot) (seat : ReaderSeat) : Type 0 where
@@ -110,3 +109,23 @@ pub record MayOpenLast (board : Book) (shots : List Shot) (seat : ReaderSeat) : 
   pub last : length shots ≡ seat.pass.most + 1
   pub few : length seat.pass.known ≤ seat.pass.most + 1
   pub room : length seat.pass.opens + length seat.finales.items ≤ seat.pass.room
+
+-- ---- what the actors did, once their threads are done
+
+-- memory cut no actor short
+pub record IsWhole (cast : Cast) : Type 0 where
+  pub editors : All (λ (seat : EditorSeat). seat.whole ≡ true) cast.editors.items
+  pub feeder : cast.feeder.whole ≡ true
+  pub readers : All (λ (seat : ReaderSeat). seat.whole ≡ true) cast.readers.items
+
+-- the passes are the station's
+pub record MayEnd {X : _} {F : _} {g : _} (s : Station X F g) (cast : Cast) : Type 0 where
+  pub editors : All (IsEditorSeat s) cast.editors.items
+  pub feeder : IsStationPass s cast.feeder.pass
+
+-- all that is above `start` and below it is done
+pub record CastDone {X : _} {F : _} {g : _} (setting : Setting) (s : Station X F g) (shots : List Shot) (cast : Cast) : Type 0 where
+  pub committed : EditorsDone s setting.parts.editors.items (steps (done_in setting)) cast.editors.items
+  pub fed : HasFed s (draws_in (steps (done_in setting))) cast.feeder shots
+  pub readers_are : readers_of cast.readers.items ≡ setting.parts.readers.items
+  pub read : All (ReaderDone setting) cast.readers.items

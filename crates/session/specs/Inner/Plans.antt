@@ -1,23 +1,47 @@
 -- What each actor of a script's session has to do, split off before anybody runs.
-use Rattle.std.specs.Prelude.{◌≡◌, ℕ, List, [], ◌∷◌, ◌++◌, map, Bool, true, false, is_some}
-use Rattle.std.specs.List.{All}
+use Rattle.std.specs.Prelude.{◌≡◌, ℕ, List, [], ◌∷◌, ◌++◌, map, Bool, true, false, is_some, All, Option, Some, None, ◌==◌, if◌then◌else◌}
 use Rattle.session_script.specs.declared.parts.TaskLine.{TaskLine}
 use Rattle.session_script.specs.declared.parts.Finale.{Finale}
 use Rattle.session_script.specs.declared.parts.Parts.{Parts}
 use Rattle.session_script.specs.declared.script.Stage.{Stage}
 use Rattle.session_script.specs.declared.script.Stage.TheVariants.{Before, During, After}
 use Rattle.session_script.specs.Parts.{act_of}
-use Rattle.carousel_world.specs.Events.{Step, Open}
+use Rattle.carousel_world.specs.Events.{Step, Open, Commit, Draw}
 use Rattle.carousel_world.specs.World.{InRange}
 use Rattle.rehearsal.specs.Lines.{Pending, none_pending, pending_after, events_of_line, settling_step}
 use Rattle.rehearsal.specs.Happening.{view_happening}
 use Rattle.session.specs.declared.plan.Plan.{Plan}
 use Rattle.session.specs.declared.plan.Work.{Work}
-use Rattle.session.specs.Inner.ByActor.{lists_of}
 use Rattle.session.specs.Chains.{DrawFields}
-use Rattle.session.specs.Lines.{commits_by, draws_in, opens_by}
+use Rattle.session.specs.Lines.{commits_by, draws_in}
 use Rattle.session.specs.Seats.{edits_of, draw_of, IsDrawLine}
 use Rattle.cycle_planner.specs.declared.TheConstants.{MOST_DRAWN}
+use Rattle.std.specs.Ordering.{nat_cmp}
+use Rattle.std.specs.BTreeMap.{get}
+use Rattle.std.specs.declared.vec.Vec.{Vec}
+use Rattle.std.specs.declared.alloc.Global.{Global}
+use Rattle.session.specs.declared.by_actor.ByActor.{ByActor}
+use Rattle.path_tree.specs.Paths.{PathNames}
+
+-- ---- a list for each actor
+
+module _ {T : Type 0} where
+  abbrev pub items_in : Option (Vec T Global) → List T
+  items_in (Some list) = list.items
+  items_in None = []
+
+  -- the list of the actor of this number
+  abbrev pub lists_of : ByActor T → ℕ → List T
+  lists_of b n = items_in (get nat_cmp b.lists n)
+
+-- ---- what one reader opens
+
+-- the paths that this reader opens, in order
+abbrev pub opens_by : ℕ → List Step → List PathNames
+opens_by reader [] = []
+opens_by reader (Commit editor edits ∷ es) = opens_by reader es
+opens_by reader (Draw asked fates ∷ es) = opens_by reader es
+opens_by reader (Open r path ∷ es) = (if r == reader then path ∷ [] else []) ++ opens_by reader es
 
 -- ---- the events of each part
 

@@ -1,5 +1,5 @@
 -- What a reading stands for: what the lines say that were read.
-use Rattle.std.specs.Prelude.{◌≡◌, ℕ, ◌+◌, List, [], ◌∷◌, ◌++◌, length, map, Option, None, Result, Ok, Err}
+use Rattle.std.specs.Prelude.{◌≡◌, ℕ, ◌+◌, List, [], ◌∷◌, ◌++◌, length, map, Option, None, Result, Ok, Err, nat_eq, Some}
 use Rattle.oc_bytes.specs.Outcome.{cap_at_u32}
 use Rattle.path_tree.specs.Paths.{Bytes}
 use Rattle.session_script.specs.declared.reading.Reading.{Reading}
@@ -10,10 +10,19 @@ use Rattle.session_script.specs.declared.script.ScriptFault.TheVariants.{BadLine
 use Rattle.session_script.specs.declared.line.Part.{Part}
 use Rattle.session_script.specs.declared.line.Part.TheVariants.{Opening, Running, Closing}
 use Rattle.session_script.specs.declared.script.Stage.TheVariants.{Before, During, After}
-use Rattle.session_script.specs.Inner.Mentions.{with_mention}
 use Rattle.session_script.specs.Scripts.{LineFields}
 use Rattle.session_script.specs.Parts.{lines_of}
 use Rattle.session_script.specs.Grammar.{Saying, Passed, Starts, Does, Ends, part_of, line_by, editor_of, reader_of, who, actors, lines_from}
+use Rattle.indexmap.specs.IndexSet.{insert_key}
+
+-- ---- actors in the order of their first mentions
+
+-- the actors with one that is mentioned, where one is
+abbrev pub with_mention : Option ℕ → List ℕ → List ℕ
+with_mention (Some n) actors = insert_key nat_eq actors n
+with_mention None actors = actors
+
+-- ---- a reading
 
 -- the lines that do something, of those that were read
 abbrev pub lines_read : Reading → List LineFields

@@ -2,7 +2,7 @@ use Rattle.std.proofs.Common.{◌≡◌, ◌++◌, ◌∷◌, [], map}
 use Rattle.std.proofs.lemmas.Result.{err_from_is_err_and}
 use Rattle.std.proofs.lemmas.List.{map_push}
 use Rattle.biop_object.specs.Objects.{view_binding, binding}
-use Rattle.biop_object.specs.Index.{cause}
+use Rattle.biop_object.specs.Inner.Index.{cause}
 use Rattle.oc_bytes.specs.Grammar.{read}
 use Rattle.oc_bytes.specs.Cursor.{each_at}
 use Rattle.oc_bytes.proofs.CallerLemmas.{begins, goes_on, ends, is_done}

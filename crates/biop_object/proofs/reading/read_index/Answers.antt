@@ -1,7 +1,7 @@
 use Rattle.std.proofs.Common.{◌≡◌, ◌<◌, ◌++◌, ◌∷◌, [], length, refl, inr}
 use Rattle.std.proofs.lemmas.List.{map_push}
 use Rattle.oc_bytes.specs.Cursor.{from_start}
-use Rattle.biop_object.specs.Index.{view_indexed, view_index}
+use Rattle.biop_object.specs.Inner.Index.{view_indexed, view_index}
 use Rattle.biop_object.specs.ObjectReading.{index_of}
 use Rattle.biop_object.proofs.Indexing.{object_shrinks, object_read, not_empty, has_begun}
 use Rattle.biop_object.proofs.reading.read_index.Goals as goal

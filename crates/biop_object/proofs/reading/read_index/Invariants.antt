@@ -1,6 +1,6 @@
 use Rattle.std.proofs.Common.{length}
 use Rattle.oc_bytes.specs.Cursor.{from_start}
-use Rattle.biop_object.specs.Index.{view_index}
+use Rattle.biop_object.specs.Inner.Index.{view_index}
 use Rattle.biop_object.specs.ObjectReading.{index_of}
 use Rattle.biop_object.proofs.Indexing.{Leads, HasBegun}
 use Rattle.biop_object.proofs.reading.read_index.Given as goal

@@ -1,11 +1,11 @@
-use Rattle.std.proofs.Common.{◌≡◌, ◌≤◌, ◌==◌, ℕ, length}
+use Rattle.std.proofs.Common.{◌≡◌, ◌==◌, length}
 use Rattle.std.specs.List.{list_any}
-use Rattle.dsi_dii.specs.Controls.{is_compressed, tags}
+use Rattle.oc_bytes.specs.Descriptors.{descriptors_in}
 use Rattle.dsi_dii.proofs.reading.has_compression.Given as goal
 
-abbrev pub invariant-loop-tag : goal.invariant-loop-tag
-invariant-loop-tag l = (steps : ℕ) × (length l.rest ≤ steps)
-    × (list_any (λ tag. tag == 0x09) (tags steps l.rest) ≡ is_compressed l.fn.user_info)
+abbrev pub invariant-loop-descriptor : goal.invariant-loop-descriptor
+invariant-loop-descriptor l =
+    list_any (λ d. d.0 == 0x09) l.descriptors ≡ list_any (λ d. d.0 == 0x09) (descriptors_in l.fn.user_info)
 
-abbrev pub decreases-loop-tag : goal.decreases-loop-tag
-decreases-loop-tag l = length l.rest
+abbrev pub decreases-loop-descriptor : goal.decreases-loop-descriptor
+decreases-loop-descriptor l = length l.descriptors

@@ -1,5 +1,5 @@
 use Rattle.std.proofs.lemmas.Result.{err_from_is_err_and}
-use Rattle.dsi_dii.specs.ControlReading.{line_at}
+use Rattle.dsi_dii.specs.Inner.ControlReading.{line_at}
 use Rattle.oc_bytes.specs.Cause.{place_of}
 use Rattle.oc_bytes.proofs.CallerLemmas.{goes_on, ends, is_done}
 use Rattle.dsi_dii.proofs.reading.lines.Goals as goal

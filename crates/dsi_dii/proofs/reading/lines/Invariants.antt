@@ -1,6 +1,6 @@
 use Rattle.std.proofs.Common.{◌≡◌, ◌-◌}
 use Rattle.oc_bytes.specs.Cursor.{each_at}
-use Rattle.dsi_dii.specs.ControlReading.{line_at}
+use Rattle.dsi_dii.specs.Inner.ControlReading.{line_at}
 use Rattle.oc_bytes.proofs.CallerLemmas.{with_front}
 use Rattle.dsi_dii.proofs.reading.lines.Given as goal
 

@@ -1,6 +1,7 @@
 use Rattle.std.proofs.Common.{◌≡◌, map, take}
 use Rattle.folder_store.specs.Folders.{view_entry}
-use Rattle.folder_store.specs.Memory.{entries_in, files_below}
+use Rattle.folder_store.specs.Memory.{entries_in}
+use Rattle.folder_store.specs.Inner.Memory.{files_below}
 use Rattle.folder_store.proofs.memory.list_files.Given as goal
 
 abbrev pub invariant-loop-text : goal.invariant-loop-text

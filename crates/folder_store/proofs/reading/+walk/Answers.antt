@@ -4,7 +4,7 @@ use Rattle.std.proofs.lemmas.Bool.{le-ltb}
 use Rattle.std.proofs.lemmas.Result.{err_from_is_err_and}
 use Rattle.folder_store.specs.declared.reading.ReadTree.TheVariants as refusals
 use Rattle.folder_store.specs.Folders.{FolderTree, IsRefused, is_folder_at, kind_of}
-use Rattle.folder_store.specs.Gathering.{kind_at, met_one}
+use Rattle.folder_store.specs.Inner.Gathering.{kind_at, met_one}
 use Rattle.folder_store.proofs.Walking.{full_goes, file_walks, folder_walks, below_ends, met_goes, made_goes, place_ends, found, entry_goes, entry_ends, folder_goes, entry_fault, kind_there, file_not_other, folder_not_other, refused_is}
 use Rattle.folder_store.specs.Surveys.{Look, at_in, first_large, names_to}
 use Rattle.folder_store.specs.Walk.{met_below}

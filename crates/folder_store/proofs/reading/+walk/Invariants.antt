@@ -5,7 +5,7 @@ use Rattle.path_tree.specs.Paths.{Bytes}
 use Rattle.folder_store.specs.Folders.{FolderTree, entries_below, is_folder_at}
 use Rattle.folder_store.specs.Walk.{sort_entries, text_below}
 use Rattle.folder_store.specs.Surveys.{first_large}
-use Rattle.folder_store.specs.Gathering.{met_one}
+use Rattle.folder_store.specs.Inner.Gathering.{met_one}
 use Rattle.folder_store.specs.Inner.Sighting.{look_in}
 use Rattle.folder_store.proofs.Marking.{Told}
 use Rattle.folder_store.proofs.Walking.{Goes}

@@ -1,5 +1,5 @@
-use Rattle.std.proofs.Common.{arith}
-use Rattle.generation.proofs.Writing.{block_cut, block_short}
+use Rattle.std.proofs.Common.{◌-◌, drop, length-take, arith}
+use Rattle.generation.proofs.Writing.{block_cut}
 use Rattle.generation.proofs.control.block_bytes.Goals as goal
 
 pub returns-clause-block : goal.returns-clause-block
@@ -7,4 +7,4 @@ returns-clause-block c =
     block_cut c.args.bytes.now c.args.block c.min-first.result c.min-end.result (omega (arith, c.min-first.ensures, c.from.ensures)) c.min-end.ensures
 
 pub returns-clause-short : goal.returns-clause-short
-returns-clause-short c = block_short c.args.bytes.now c.min-first.result c.min-end.result (omega (arith, c.min-end.ensures))
+returns-clause-short c = omega (arith, c.min-end.ensures, length-take (c.min-end.result - c.min-first.result) (drop c.min-first.result c.args.bytes.now))

@@ -1,6 +1,5 @@
 use Rattle.std.proofs.Common.{◌∙◌, ap, arith, length, map}
-use Rattle.generation.specs.Layouts.{count_in}
-use Rattle.generation.specs.View.{view_listed}
+use Rattle.generation.proofs.Words.{count_in, view_listed}
 use Rattle.generation.proofs.Writing.{small_bytes, block_arm}
 use Rattle.generation.proofs.control.block_of_module.Goals as goal
 

@@ -1,6 +1,5 @@
 use Rattle.std.proofs.Common.{◌≡◌, ◌++◌, sym, subst, ap, ◌∙◌, arith}
-use Rattle.std.specs.Prelude.{IfOk}
-use Rattle.dsmcc_section.specs.Sections.{spelling}
+use Rattle.generation.proofs.Words.{IfOk, spelling}
 use Rattle.ddb_block.specs.Blocks as blocks
 use Rattle.generation.proofs.Writing.{section_is}
 use Rattle.generation.proofs.control.block_section.Goals as goal

@@ -1,7 +1,5 @@
 use Rattle.std.proofs.Common.{◌≡◌, subst}
-use Rattle.std.specs.Prelude.{IfOk}
-use Rattle.dsmcc_section.specs.Sections.{spelling}
-use Rattle.generation.specs.Layouts.{control_section}
+use Rattle.generation.proofs.Words.{IfOk, spelling, control_section}
 use Rattle.generation.proofs.control.control.Goals as goal
 
 pub returns-clause-spells : goal.returns-clause-spells

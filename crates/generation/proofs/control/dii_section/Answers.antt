@@ -1,14 +1,6 @@
 use Rattle.std.proofs.Common.{◌≡◌, ℕ, ◌≤◌, ◌%◌, ◌∙◌, ap, sym, subst, length, map, refl}
-use Rattle.std.specs.Prelude.{IfOk}
-use Rattle.std.specs.List.{All}
-use Rattle.std.proofs.lemmas.List.Elements.{All-filter}
-use Rattle.path_tree.specs.Paths.{Bytes}
-use Rattle.dsmcc_section.specs.Sections.{spelling}
-use Rattle.dsi_dii.specs.Controls.{dii_spelling, dii_transaction}
-use Rattle.dsi_dii.specs.declared.TheConstants.{BLOCK_SIZE, MOST_TOTAL_SIZE}
-use Rattle.generation.specs.Groups.{is_in_group, group_in}
-use Rattle.generation.specs.Layouts.{control_section, dii_lines}
-use Rattle.generation.specs.View.{view_listed}
+use Rattle.carousel_profile.specs.declared.TheConstants.{BLOCK_SIZE}
+use Rattle.generation.proofs.Words.{IfOk, All, All-filter, Bytes, spelling, dii_spelling, MOST_TOTAL_SIZE, is_in_group, group_in, control_section, dii_lines, view_listed, dii_transaction}
 use Rattle.generation.proofs.Writing.{dii_is, dii_fits, plain_lines}
 use Rattle.generation.proofs.control.dii_section.Goals as goal
 

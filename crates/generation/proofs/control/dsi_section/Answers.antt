@@ -1,8 +1,6 @@
 use Rattle.std.proofs.Common.{◌≡◌, subst, ap, length, arith}
-use Rattle.std.specs.Prelude.{IfOk}
+use Rattle.generation.proofs.Words.{IfOk, spelling, gateway_location, control_section}
 use Rattle.ior_tap.specs.Iors as iors
-use Rattle.dsmcc_section.specs.Sections.{spelling}
-use Rattle.generation.specs.Layouts.{gateway_location, control_section}
 use Rattle.generation.proofs.Writing.{dsi_short, gateway_written, dsi_is}
 use Rattle.generation.proofs.control.dsi_section.Goals as goal
 

@@ -1,6 +1,5 @@
 use Rattle.std.proofs.Common.{◌≡◌, take, map}
-use Rattle.generation.specs.Layouts.{dii_lines}
-use Rattle.generation.specs.View.{view_listed}
+use Rattle.generation.proofs.Words.{dii_lines, view_listed}
 use Rattle.generation.proofs.control.module_lines.Given as goal
 
 abbrev pub invariant-loop-listed : goal.invariant-loop-listed

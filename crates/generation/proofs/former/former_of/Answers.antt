@@ -1,9 +1,6 @@
 use Rattle.std.proofs.Common.{None, sym, ◌∙◌, ap, subst, map, false, arith}
 use Rattle.generation.proofs.Sharing.{found_more, still_rising, key_seen, module_seen}
-use Rattle.generation.specs.declared.spots.Spot.{Spot}
-use Rattle.generation.specs.Publication.{AreRising}
-use Rattle.generation.specs.Layouts.{key_in, module_of, old_keys, old_modules}
-use Rattle.generation.specs.View.{view_spot, view_placed}
+use Rattle.generation.proofs.Words.{AreRising, key_in, module_of, old_keys, old_modules, view_spot, view_placed, CodeSpot}
 use Rattle.generation.proofs.former.former_of.Goals as goal
 
 pub loop-spot-preserved : goal.loop-spot-preserved
@@ -12,7 +9,7 @@ loop-spot-preserved c =
     let u = c.args.tree.now in
     let left = map (view_placed t) c.loop-spot.left.now in
     let i = c.loop-spot.spot-index in
-    let d : Spot = record { entry = 0; names = 0; whole = false; number = 0; parent = None } in
+    let d : CodeSpot = record { entry = 0; names = 0; whole = false; number = 0; parent = None } in
     let s = c.args.spots.now in
     record {
       valid = c.seek-object.ensures.valid;

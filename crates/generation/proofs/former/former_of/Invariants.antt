@@ -1,8 +1,5 @@
 use Rattle.std.proofs.Common.{◌≡◌, ◌++◌, drop, map}
-use Rattle.std.specs.List.{All}
-use Rattle.generation.specs.Publication.{AreRising}
-use Rattle.generation.specs.Layouts.{old_keys, old_modules}
-use Rattle.generation.specs.View.{view_spot, view_placed, IsSpotIn}
+use Rattle.generation.proofs.Words.{All, AreRising, old_keys, old_modules, view_spot, view_placed, IsSpotIn}
 use Rattle.generation.proofs.former.former_of.Given as goal
 
 abbrev pub invariant-loop-spot : goal.invariant-loop-spot

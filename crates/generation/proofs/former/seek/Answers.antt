@@ -1,9 +1,7 @@
 use Rattle.std.proofs.Common.{◌≡◌, sym, ap, ◌∙◌, map, drop, arith}
-use Rattle.std.specs.Ordering.{is_lt}
+use Rattle.generation.proofs.Words.{is_lt, from_path, first_same, view_spot, view_placed}
 use Rattle.generation.proofs.Sharing.{stops, none_here, one_here}
 use Rattle.generation.proofs.Members.{no_object}
-use Rattle.generation.specs.Inner.Merging.{from_path, first_same}
-use Rattle.generation.specs.View.{view_spot, view_placed}
 use Rattle.generation.proofs.former.seek.Goals as goal
 
 pub returns-in-Equal-clause-object : goal.returns-in-Equal-clause-object

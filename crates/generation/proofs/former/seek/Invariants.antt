@@ -1,6 +1,5 @@
 use Rattle.std.proofs.Common.{◌≡◌, drop, map}
-use Rattle.generation.specs.Inner.Merging.{from_path}
-use Rattle.generation.specs.View.{view_spot, view_placed}
+use Rattle.generation.proofs.Words.{from_path, view_spot, view_placed}
 use Rattle.generation.proofs.former.seek.Given as goal
 
 abbrev pub invariant-loop-passed : goal.invariant-loop-passed

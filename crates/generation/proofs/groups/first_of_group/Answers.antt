@@ -1,5 +1,5 @@
 use Rattle.std.proofs.Common.{nat_lt, rules}
-use Rattle.std.proofs.lemmas.List.Sorted.{IsPartitionPoint-from_clause}
+use Rattle.generation.proofs.Words.{IsPartitionPoint-from_clause}
 use Rattle.generation.proofs.Searching.{groups_parted, first_found}
 use Rattle.module_groups.specs.Groups.{group_of}
 use Rattle.generation.proofs.groups.first_of_group.Goals as goal

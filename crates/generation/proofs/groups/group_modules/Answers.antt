@@ -1,7 +1,6 @@
 use Rattle.std.proofs.Common.{◌-◌, ap, length, map, take, drop, arith}
-use Rattle.std.proofs.lemmas.List.{length-map}
+use Rattle.generation.proofs.Words.{length-map, view_listed}
 use Rattle.generation.proofs.Searching.{listed_in_order, listed_cut_is}
-use Rattle.generation.specs.View.{view_listed}
 use Rattle.generation.proofs.Grouping.{few_of_group}
 use Rattle.generation.proofs.groups.group_modules.Goals as goal
 

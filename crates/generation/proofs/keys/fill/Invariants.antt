@@ -1,5 +1,5 @@
 use Rattle.std.proofs.Common.{◌≡◌, ◌≤◌, ◌++◌, drop, length}
-use Rattle.generation.specs.Layouts.{fill_keys}
+use Rattle.generation.proofs.Words.{fill_keys}
 use Rattle.generation.proofs.keys.fill.Given as goal
 
 abbrev pub invariant-loop-key : goal.invariant-loop-key

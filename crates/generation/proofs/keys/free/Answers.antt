@@ -1,5 +1,5 @@
 use Rattle.std.proofs.Common.{arith, sym, ◌∙◌, false}
-use Rattle.std.proofs.lemmas.List.{get_or_read}
+use Rattle.generation.proofs.Words.{get_or_read}
 use Rattle.generation.proofs.Keyed.{free_taken, free_found}
 use Rattle.generation.proofs.keys.free.Goals as goal
 use Rattle.generation.proofs.keys.free.Goals.{then-not-index+in_ok-push, else-not-index}

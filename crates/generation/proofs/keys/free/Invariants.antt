@@ -1,5 +1,5 @@
 use Rattle.std.proofs.Common.{◌≡◌, ◌-◌}
-use Rattle.generation.specs.Layouts.{free_keys}
+use Rattle.generation.proofs.Words.{free_keys}
 use Rattle.generation.proofs.keys.free.Given as goal
 
 abbrev pub invariant-loop-key : goal.invariant-loop-key

@@ -1,5 +1,5 @@
 use Rattle.std.proofs.Common.{◌≡◌, ◌==◌, ◌<◌, ℕ, false, length, take, get_or}
-use Rattle.std.specs.List.{list_any}
+use Rattle.generation.proofs.Words.{list_any}
 use Rattle.generation.proofs.keys.marks.Given as goal
 
 abbrev pub invariant-loop-number : goal.invariant-loop-number

@@ -1,8 +1,7 @@
 use Rattle.std.proofs.Common.{arith, sym, ap, ◌∙◌, map, get_or, Err}
 use Rattle.generation.proofs.Weighing.{size_at, find_more, find_here, some_file, as_many, top_spot}
-use Rattle.generation.specs.Publication.{is_large_folder, large_folder, Folder}
-use Rattle.generation.specs.Limits.{unless_passed}
-use Rattle.generation.specs.View.{view_spot}
+use Rattle.generation.specs.Publication.{Folder}
+use Rattle.generation.proofs.Words.{is_large_folder, large_folder, unless_passed, view_spot}
 use Rattle.generation.proofs.limit.check_folders.Goals as goal
 
 pub loop-index-preserved : goal.loop-index-preserved

@@ -1,7 +1,5 @@
 use Rattle.std.proofs.Common.{◌≡◌, drop, map}
-use Rattle.std.specs.List.{find}
-use Rattle.generation.specs.Publication.{is_large_folder}
-use Rattle.generation.specs.View.{view_spot}
+use Rattle.generation.proofs.Words.{find, is_large_folder, view_spot}
 use Rattle.generation.proofs.limit.check_folders.Given as goal
 
 abbrev pub invariant-loop-index : goal.invariant-loop-index

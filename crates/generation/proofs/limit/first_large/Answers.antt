@@ -1,8 +1,6 @@
 use Rattle.std.proofs.Common.{arith, sym, ap, ◌∙◌, map, Some}
-use Rattle.std.specs.Option.{option_map}
+use Rattle.generation.proofs.Words.{option_map, is_large_folder, size_of, view_spot}
 use Rattle.generation.proofs.Weighing.{size_at, find_more, find_here, as_many, top_spot}
-use Rattle.generation.specs.Publication.{is_large_folder, size_of}
-use Rattle.generation.specs.View.{view_spot}
 use Rattle.generation.proofs.limit.first_large.Goals as goal
 
 pub loop-index-preserved : goal.loop-index-preserved

@@ -1,8 +1,5 @@
 use Rattle.std.proofs.Common.{◌≡◌, drop, map}
-use Rattle.std.specs.List.{find}
-use Rattle.path_tree.specs.Trees.{Tree}
-use Rattle.generation.specs.Publication.{is_large_folder, size_of}
-use Rattle.generation.specs.View.{view_spot}
+use Rattle.generation.proofs.Words.{find, Tree, is_large_folder, size_of, view_spot}
 use Rattle.generation.proofs.limit.first_large.Given as goal
 
 abbrev pub invariant-loop-index : goal.invariant-loop-index

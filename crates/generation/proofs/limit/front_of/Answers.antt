@@ -1,5 +1,5 @@
 use Rattle.std.proofs.Common.{arith, length, ap}
-use Rattle.generation.specs.View.{path_at}
+use Rattle.generation.proofs.Words.{path_at}
 use Rattle.generation.proofs.Spotting.{path_at_within}
 use Rattle.generation.proofs.limit.front_of.Goals as goal
 use Rattle.generation.proofs.limit.front_of.Goals.{then-spot-eq0, else-spot-eq0}

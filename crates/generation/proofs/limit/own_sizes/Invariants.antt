@@ -1,6 +1,5 @@
 use Rattle.std.proofs.Common.{◌≡◌, [], take, map}
-use Rattle.generation.specs.Publication.{size_of}
-use Rattle.generation.specs.View.{view_spot}
+use Rattle.generation.proofs.Words.{size_of, view_spot}
 use Rattle.generation.proofs.limit.own_sizes.Given as goal
 
 abbrev pub invariant-loop-spot : goal.invariant-loop-spot

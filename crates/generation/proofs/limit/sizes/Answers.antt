@@ -1,9 +1,5 @@
 use Rattle.std.proofs.Common.{◌≡◌, ◌≤◌, ◌<◌, ◌+◌, ◌*◌, ◌∙◌, false, None, ℕ, length, map, take, set, get_or, ap, arith, rules}
-use Rattle.std.proofs.lemmas.Grind.{common_steps}
-use Rattle.std.proofs.lemmas.List.{take_all, get_or_default}
-use Rattle.generation.specs.declared.spots.Spot.{Spot}
-use Rattle.generation.specs.Publication.{size_of}
-use Rattle.generation.specs.View.{view_spot}
+use Rattle.generation.proofs.Words.{common_steps, take_all, get_or_default, size_of, view_spot, CodeSpot}
 use Rattle.generation.proofs.Weighing.{weighed_none, weighed_some, folder_within, folder_small_yet}
 use Rattle.generation.proofs.limit.sizes.Goals as goal
 use Rattle.generation.proofs.limit.sizes.Goals.{in-Some, in_default}
@@ -33,7 +29,7 @@ loop-spot-preserved c =
     let spots = c.args.spots.now in
     let i = c.loop-spot.spot-index in
     let sizes = c.loop-spot.sizes.items in
-    let d : Spot = record { entry = 0; names = 0; whole = false; number = 0; parent = None } in
+    let d : CodeSpot = record { entry = 0; names = 0; whole = false; number = 0; parent = None } in
     elim c.match-spot.branch [
       | in-Some w ↦
           let within : w.in-Some.folder < length sizes = folder_within t spots sizes (map (view_spot t) (take i spots)) i d w.in-Some.folder c.requires.spots (omega arith) w.in-Some.is c.loop-spot.invariant in

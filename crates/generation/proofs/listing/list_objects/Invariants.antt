@@ -1,6 +1,6 @@
 use Rattle.std.proofs.Common.{◌≡◌, map, take}
 use Rattle.generation.specs.Objects.{object_of}
-use Rattle.generation.specs.View.{view_placed}
+use Rattle.generation.proofs.Words.{view_placed}
 use Rattle.generation.proofs.listing.list_objects.Given as goal
 
 abbrev pub invariant-loop-object : goal.invariant-loop-object

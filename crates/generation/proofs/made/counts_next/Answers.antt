@@ -1,48 +1,18 @@
-use Rattle.std.proofs.Common.{◌+◌, ◌<◌, ◌∙◌, ap, sym, subst, length, map, get_or, arith}
-use Rattle.std.specs.List.{count_by, range_with_len}
-use Rattle.std.proofs.lemmas.List.{get_or_default, take_all}
-use Rattle.generation.specs.Layouts.{count_in}
-use Rattle.generation.specs.View.{is_raised}
-use Rattle.generation.specs.declared.made.Listed.{Listed}
-use Rattle.generation.proofs.Counting.{AreRaised, id_counted, none_yet, one_stays, raised_at, has_room}
+use Rattle.std.proofs.Common.{◌≡◌, ◌+◌, ◌++◌, ◌∷◌, [], ◌∙◌, ap, sym, map, arith, lit<}
+use Rattle.generation.proofs.Words.{LAST_GENERATION, range_with_len, count_after, view_listed, map-range_with_len_more}
+use Rattle.generation.proofs.Writing.{small_count}
 use Rattle.generation.proofs.made.counts_next.Goals as goal
-use Rattle.generation.proofs.made.counts_next.Goals.{then-not-listed, else-not-listed}
 
-pub loop-listed-init : goal.loop-listed-init
-loop-listed-init c =
-    none_yet c.args.counts.now c.args.modules.now c.in_ok-after.after.items (c.in_ok-after.ensures ∙ ap (λ n. map (count_in c.args.counts.now) (range_with_len 0 n)) c.ids_counted.ensures)
+pub overflow_add-count_in : goal.overflow_add-count_in
+overflow_add-count_in c = omega (arith, small_count c.args.counts.now c.loop-id.id LAST_GENERATION (lit< tt) c.requires.counts, c.count_in.ensures, c.changes.ensures.once)
 
-pub index_mut-requires : goal.index_mut-requires
-index_mut-requires c =
-    let counted = id_counted c.args.modules.now (length c.args.counts.now) c.loop-listed.listed-index c.listed-item.result c.loop-listed-test.true in
-    omega (arith, counted, c.loop-listed.invariant.many, c.loop-listed.after.ok.0, c.from.ensures, ap (λ (l : Listed). l.id) c.listed-item.is)
+pub loop-id-preserved : goal.loop-id-preserved
+loop-id-preserved c = λ before marked.
+    let f = count_after before (map view_listed c.args.modules.now) c.args.counts.now in
+    let is : c.count_in.result + c.changes.result ≡ f c.loop-id.id = omega (arith, c.count_in.ensures, c.changes.ensures.changes before marked) in
+    c.in_ok-push.ensures.items
+    ∙ (ap (λ l. l ++ (c.count_in.result + c.changes.result) ∷ []) (c.loop-id.invariant before marked)
+    ∙ (ap (λ n. map f (range_with_len 0 c.loop-id.id) ++ n ∷ []) is ∙ sym (map-range_with_len_more f 0 c.loop-id.id c.loop-id.id (omega arith))))
 
-pub overflow_add-index_mut : goal.overflow_add-index_mut
-overflow_add-index_mut c =
-    let counted = id_counted c.args.modules.now (length c.args.counts.now) c.loop-listed.listed-index c.listed-item.result c.loop-listed-test.true in
-    let within : c.from.result < length c.loop-listed.after.items = omega (arith, counted, c.loop-listed.invariant.many, c.from.ensures, ap (λ (l : Listed). l.id) c.listed-item.is) in
-    let is = c.index_mut.ensures.value ∙ get_or_default c.loop-listed.after.items c.from.result c.index_mut.result.now 0 within in
-    let most = has_room c.args.counts.now c.args.modules.now c.loop-listed.listed-index c.loop-listed.after.items c.from.result c.requires.counts c.loop-listed.invariant in
-    omega (arith, is, most, c.requires.few)
-
-pub loop-listed-preserved : goal.loop-listed-preserved
-loop-listed-preserved c =
-    let counts = c.args.counts.now in
-    let ms = c.args.modules.now in
-    let k = c.loop-listed.listed-index in
-    let d = c.listed-item.result in
-    let inside = c.loop-listed-test.true in
-    elim c.if-not-listed.branch [
-      | then-not-listed w ↦
-          subst (AreRaised counts ms (k + 1)) (sym (ap (λ v. v.items) w.after-is))
-          (raised_at counts ms k c.loop-listed.after.items d w.from.result w.index_mut.result.now inside (w.from.ensures ∙ ap (λ (l : Listed). l.id) c.listed-item.is)
-          (ap (λ (l : Listed). l.stays) (sym c.listed-item.is) ∙ w.if-not-listed.true) w.index_mut.ensures.value c.loop-listed.invariant)
-      | else-not-listed w ↦
-          subst (AreRaised counts ms (k + 1)) (sym (ap (λ v. v.items) w.after-is))
-          (one_stays counts ms k c.loop-listed.after.items d inside (ap (λ (l : Listed). l.stays) (sym c.listed-item.is) ∙ w.if-not-listed.false) c.loop-listed.invariant)
-    ]
-
-pub returns-clause-each : goal.returns-clause-each
-returns-clause-each c = λ m.
-    let whole = take_all c.loop-listed.listed-index c.args.modules.now (omega (arith, c.loop-listed-test.false)) in
-    c.loop-listed.invariant.each m ∙ ap (λ l. get_or c.args.counts.now m 0 + count_by (is_raised m) l) whole
+pub returns : goal.returns
+returns c = λ before marked. c.loop-id.invariant before marked ∙ ap (λ n. map (count_after before (map view_listed c.args.modules.now) c.args.counts.now) (range_with_len 0 n)) (omega (arith, c.ids_counted-end.ensures))

@@ -1,26 +1,10 @@
-use Rattle.std.proofs.Common.{◌∙◌, ap, sym, nat_lt, arith, rules}
-use Rattle.std.proofs.lemmas.List.{get_or_default}
-use Rattle.std.proofs.lemmas.List.Sorted.{IsPartitionPoint-from_clause, IsPartitionedBy-ltb}
-use Rattle.generation.specs.declared.made.Listed.{Listed}
-use Rattle.generation.proofs.Searching.{IsFirst, ids_up, module_found_at, no_module_at}
+use Rattle.std.proofs.Common.{◌∙◌, ap, sym, map}
+use Rattle.generation.proofs.Words.{Listed, module_in, view_listed, option_map}
+use Rattle.generation.proofs.Searching.{listed_in}
 use Rattle.generation.proofs.made.find_module.Goals as goal
-use Rattle.generation.proofs.made.find_module.Goals.{else-first-modules-via-then-first-modules+else-modules-first, else-first-modules-via-else-first-modules}
 
-pub returns-then-modules-first : goal.returns-then-modules-first
-returns-then-modules-first c =
-    let ms = c.args.modules.now in
-    let first = c.partition_point-first.result in
-    let d = c.index-modules-first-then-modules-first.result in
-    let point : IsFirst ms c.args.id first = IsPartitionPoint-from_clause (λ l. nat_lt l.id c.args.id) ms first c.partition_point-first.ensures.partitioned (IsPartitionedBy-ltb (λ l. l.id) ms c.args.id (ids_up ms c.requires)) (λ a r q k. search rules) in
-    sym (module_found_at ms c.args.id first d point c.if-first-modules.true (ap (λ (l : Listed). l.id) (get_or_default ms first d c.index-modules-first.result c.if-first-modules.true) ∙ c.if-modules-first.true))
+pub returns-in-Some : goal.returns-in-Some
+returns-in-Some c = sym (ap (module_in (map view_listed c.args.modules.now)) (sym c.from.ensures) ∙ (listed_in c.args.modules.now c.from.result ∙ ap (option_map (λ (l : Listed). l.bytes)) (sym c.in-Some.ensures)))
 
-pub returns-else-first-modules : goal.returns-else-first-modules
-returns-else-first-modules c =
-    let ms = c.args.modules.now in
-    let first = c.partition_point-first.result in
-    let point : IsFirst ms c.args.id first = IsPartitionPoint-from_clause (λ l. nat_lt l.id c.args.id) ms first c.partition_point-first.ensures.partitioned (IsPartitionedBy-ltb (λ l. l.id) ms c.args.id (ids_up ms c.requires)) (λ a r q k. search rules) in
-    elim c.else-first-modules.branch [
-      | else-first-modules-via-then-first-modules+else-modules-first w ↦
-          sym (no_module_at ms c.args.id first c.requires point (λ inside d e. w.if-modules-first.false (ap (λ (l : Listed). l.id) (get_or_default ms first w.index-modules-first.result d inside) ∙ e)))
-      | else-first-modules-via-else-first-modules w ↦ sym (no_module_at ms c.args.id first c.requires point (λ inside d e. omega (arith, inside, w.if-first-modules.false)))
-    ]
+pub returns-in-None : goal.returns-in-None
+returns-in-None c = sym (ap (module_in (map view_listed c.args.modules.now)) (sym c.from.ensures) ∙ (listed_in c.args.modules.now c.from.result ∙ ap (option_map (λ (l : Listed). l.bytes)) (sym c.in-None.ensures)))

@@ -1,7 +1,5 @@
 use Rattle.std.proofs.Common.{◌≡◌, ◌+◌, map, drop, max}
-use Rattle.std.specs.List.{fold}
-use Rattle.generation.specs.Layouts.{ids_counted}
-use Rattle.generation.specs.View.{view_listed}
+use Rattle.generation.proofs.Words.{fold, ids_counted, view_listed}
 use Rattle.generation.proofs.made.ids_counted.Given as goal
 
 abbrev pub invariant-loop-listed : goal.invariant-loop-listed

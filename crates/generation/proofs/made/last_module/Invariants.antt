@@ -1,6 +1,5 @@
 use Rattle.std.proofs.Common.{◌≡◌, map, drop, max}
-use Rattle.std.specs.List.{fold}
-use Rattle.generation.specs.Layouts.{greatest}
+use Rattle.generation.proofs.Words.{fold, greatest}
 use Rattle.generation.proofs.made.last_module.Given as goal
 
 abbrev pub invariant-loop-object : goal.invariant-loop-object

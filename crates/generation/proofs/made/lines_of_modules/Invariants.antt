@@ -1,6 +1,5 @@
 use Rattle.std.proofs.Common.{◌≡◌, take, map}
-use Rattle.generation.specs.Layouts.{lines_in}
-use Rattle.generation.specs.View.{view_listed}
+use Rattle.generation.proofs.Words.{lines_in, view_listed}
 use Rattle.generation.proofs.made.lines_of_modules.Given as goal
 
 abbrev pub invariant-loop-listed : goal.invariant-loop-listed

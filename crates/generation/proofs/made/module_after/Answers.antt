@@ -1,6 +1,5 @@
 use Rattle.std.proofs.Common.{◌≡◌, sym, ◌∙◌, ap, map}
-use Rattle.path_tree.proofs.CallerLemmas.{same_name-is}
-use Rattle.generation.specs.View.{view_listed}
+use Rattle.generation.proofs.Words.{same_name-is, view_listed}
 use Rattle.generation.proofs.Sharing.{marked_here}
 use Rattle.generation.proofs.made.module_after.Goals as goal
 

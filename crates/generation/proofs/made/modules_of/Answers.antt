@@ -1,9 +1,5 @@
-use Rattle.std.proofs.Common.{sym, ◌∙◌, ap, map, subst, arith}
-use Rattle.std.specs.Prelude.{IfSome}
-use Rattle.std.specs.Option.{option_map}
-use Rattle.std.proofs.lemmas.List.Elements.{All-push}
-use Rattle.generation.specs.Layouts.{module_if_used}
-use Rattle.generation.specs.View.{view_placed, view_listed, IsMarked}
+use Rattle.std.proofs.Common.{sym, ◌∙◌, ap, map, arith}
+use Rattle.generation.proofs.Words.{option_map, All-push, module_if_used, view_placed, view_listed, IsMarked}
 use Rattle.generation.proofs.Placing.{ids_more, ids_same, all_ids}
 use Rattle.generation.proofs.made.modules_of.Goals as goal
 use Rattle.generation.proofs.made.modules_of.Goals.{in-Some+in_ok-push, in_default}
@@ -15,7 +11,7 @@ loop-id-preserved c =
     elim c.match-branch-3.branch [
       | in-Some+in_ok-push w ↦ record {
         layout = rw (w.modules-is, w.in_ok-push.ensures.items) (ids_more f view_listed c.loop-id.id c.loop-id.modules.items w.in-Some.listed (omega arith) c.loop-id.invariant.layout (ap (option_map view_listed) (sym w.in-Some.is) ∙ c.in_ok-listed.ensures.listed));
-        marked = rw (w.modules-is, w.in_ok-push.ensures.items) (All-push marked c.loop-id.modules.items w.in-Some.listed c.loop-id.invariant.marked (subst (λ o. IfSome o marked) w.in-Some.is c.in_ok-listed.ensures.stays));
+        marked = rw (w.modules-is, w.in_ok-push.ensures.items) (All-push marked c.loop-id.modules.items w.in-Some.listed c.loop-id.invariant.marked (rw w.in-Some.is at c.in_ok-listed.ensures.stays));
       }
       | in_default w ↦ record {
         layout = rw w.modules-is (ids_same f view_listed c.loop-id.id c.loop-id.modules.items (omega arith) c.loop-id.invariant.layout (ap (option_map view_listed) (sym w.in_default.is) ∙ c.in_ok-listed.ensures.listed));

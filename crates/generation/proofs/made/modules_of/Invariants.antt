@@ -1,7 +1,5 @@
 use Rattle.std.proofs.Common.{◌≡◌, ◌-◌, map}
-use Rattle.std.specs.List.{filter_map, range_with_len}
-use Rattle.generation.specs.Layouts.{module_if_used}
-use Rattle.generation.specs.View.{view_listed, view_placed, AreMarked}
+use Rattle.generation.proofs.Words.{filter_map, range_with_len, module_if_used, view_listed, view_placed, AreMarked}
 use Rattle.generation.proofs.made.modules_of.Given as goal
 
 abbrev pub invariant-loop-id : goal.invariant-loop-id

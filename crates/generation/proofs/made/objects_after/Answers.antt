@@ -1,11 +1,6 @@
 use Rattle.std.proofs.Common.{◌≡◌, ◌∙◌, ap, map, sym, subst}
-use Rattle.std.specs.List.{All, zip}
+use Rattle.generation.proofs.Words.{All, zip, AreObjects, GREATEST_ID, spots_of, sizes_of, AreRising, old_keys, old_modules, keys_of, modules_for, view_spot, view_placed, IsSpotIn}
 use Rattle.generation.proofs.Filling.{are_placed, are_objects, few_old, read_objects, placed_read}
-use Rattle.module_packer.specs.Kept.{AreObjects}
-use Rattle.module_groups.specs.declared.TheConstants.{GREATEST_ID}
-use Rattle.generation.specs.Publication.{spots_of, sizes_of, AreRising}
-use Rattle.generation.specs.Layouts.{old_keys, old_modules, keys_of, modules_for}
-use Rattle.generation.specs.View.{view_spot, view_placed, IsSpotIn}
 use Rattle.generation.proofs.Writing.{keys_are}
 use Rattle.generation.proofs.Placing.{within_limits}
 use Rattle.generation.proofs.Numbering.{rising_all}

@@ -1,9 +1,5 @@
 use Rattle.std.proofs.Common.{◌++◌, ◌∷◌, [], ◌∙◌, map, take, get_or, sym, ap, arith}
-use Rattle.std.proofs.lemmas.List.{map-append, take_all, take_more}
-use Rattle.std.proofs.lemmas.List.Elements.{All-nil, All-push}
-use Rattle.biop_object.specs.Objects.{IsEntry}
-use Rattle.generation.specs.Inner.Linking.{members_in}
-use Rattle.generation.specs.View.{IsId, IsSpotIn}
+use Rattle.generation.proofs.Words.{map-append, take_all, take_more, All-nil, All-push, IsEntry, IsId, IsSpotIn}
 use Rattle.generation.proofs.Members.{binding_of, bindings_are, all_lying, all_named, folder_group, no_object}
 use Rattle.generation.proofs.objects.entries.Goals as goal
 
@@ -12,23 +8,23 @@ loop-child-init c = record { valid = rw c.new-entries.ensures.items (All-nil IsE
 
 pub written-requires-clause-object : goal.written-requires-clause-object
 written-requires-clause-object c =
-    let is = c.deref-child-items.ensures.value ∙ (c.in_ok-members.ensures ∙ ap (λ gs. members_in c.args.folder gs c.args.objects.now) c.requires.children) in
-    all_lying folder_group (λ o. IsSpotIn c.args.tree.now o.spot) c.args.folder c.args.objects.now c.deref-child-items.result.now is c.requires.objects c.loop-child.child-index _ (omega arith)
+    let is = c.members_of-members.ensures ∙ c.requires.children c.args.folder in
+    all_lying folder_group (λ o. IsSpotIn c.args.tree.now o.spot) c.args.folder c.args.objects.now c.members_of-members.result.now is c.requires.objects c.loop-child.child-index _ (omega arith)
 
 pub written-requires-clause-listed : goal.written-requires-clause-listed
 written-requires-clause-listed c =
-    let is = c.deref-child-items.ensures.value ∙ (c.in_ok-members.ensures ∙ ap (λ gs. members_in c.args.folder gs c.args.objects.now) c.requires.children) in
-    all_lying folder_group (λ o. IsId o.«module») c.args.folder c.args.objects.now c.deref-child-items.result.now is c.requires.listed c.loop-child.child-index _ (omega arith)
+    let is = c.members_of-members.ensures ∙ c.requires.children c.args.folder in
+    all_lying folder_group (λ o. IsId o.«module») c.args.folder c.args.objects.now c.members_of-members.result.now is c.requires.listed c.loop-child.child-index _ (omega arith)
 
 pub written-requires-clause-named : goal.written-requires-clause-named
 written-requires-clause-named c =
-    let is = c.deref-child-items.ensures.value ∙ (c.in_ok-members.ensures ∙ ap (λ gs. members_in c.args.folder gs c.args.objects.now) c.requires.children) in
-    all_named c.args.tree.now c.args.folder c.args.objects.now c.deref-child-items.result.now is c.requires.objects c.loop-child.child-index _ (omega arith)
+    let is = c.members_of-members.ensures ∙ c.requires.children c.args.folder in
+    all_named c.args.tree.now c.args.folder c.args.objects.now c.members_of-members.result.now is c.requires.objects c.loop-child.child-index _ (omega arith)
 
 pub loop-child-preserved : goal.loop-child-preserved
 loop-child-preserved c =
     let binding = binding_of c.args.carousel c.args.tree.now in
-    let ms = c.deref-child-items.result.now in
+    let ms = c.members_of-members.result.now in
     let i = c.loop-child.child-index in
     record {
       valid = rw c.in_ok-push.ensures.items (All-push IsEntry c.loop-child.entries.items c.in_ok-written.field-0 c.loop-child.invariant.valid c.in_ok-written.ensures.valid);
@@ -39,6 +35,6 @@ loop-child-preserved c =
 
 pub returns-clause-entries : goal.returns-clause-entries
 returns-clause-entries c =
-    let is = c.deref-child-items.ensures.value ∙ (c.in_ok-members.ensures ∙ ap (λ gs. members_in c.args.folder gs c.args.objects.now) c.requires.children) in
-    c.loop-child.invariant.so_far ∙ (ap (map (binding_of c.args.carousel c.args.tree.now)) (take_all c.loop-child.child-index c.deref-child-items.result.now (omega arith) ∙ is)
+    let is = c.members_of-members.ensures ∙ c.requires.children c.args.folder in
+    c.loop-child.invariant.so_far ∙ (ap (map (binding_of c.args.carousel c.args.tree.now)) (take_all c.loop-child.child-index c.members_of-members.result.now (omega arith) ∙ is)
     ∙ bindings_are c.args.carousel c.args.folder c.args.tree.now c.args.objects.now)

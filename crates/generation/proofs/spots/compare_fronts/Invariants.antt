@@ -1,5 +1,5 @@
 use Rattle.std.proofs.Common.{◌≡◌, take, drop}
-use Rattle.path_tree.specs.Paths.{path_cmp}
+use Rattle.generation.proofs.Words.{path_cmp}
 use Rattle.generation.proofs.spots.compare_fronts.Given as goal
 
 abbrev pub invariant-loop-i : goal.invariant-loop-i

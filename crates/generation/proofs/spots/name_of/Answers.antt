@@ -1,5 +1,5 @@
 use Rattle.std.proofs.Common.{arith}
-use Rattle.generation.specs.View.{path_at}
+use Rattle.generation.proofs.Words.{path_at}
 use Rattle.generation.proofs.Spotting.{path_at_within, path_valid, last_lent, valid_lent}
 use Rattle.generation.proofs.spots.name_of.Goals as goal
 

@@ -1,8 +1,5 @@
 use Rattle.std.proofs.Common.{◌++◌, take, get_or, sym, ◌∙◌, ap, arith}
-use Rattle.std.proofs.lemmas.List.{take_all}
-use Rattle.generation.specs.Layouts.{object_bytes}
-use Rattle.generation.specs.Inner.Stays.{bytes_of_all}
-use Rattle.generation.specs.View.{view_placed}
+use Rattle.generation.proofs.Words.{take_all, object_bytes, bytes_of_all, view_placed}
 use Rattle.generation.proofs.Members.{one_more, no_object}
 use Rattle.generation.proofs.unchanged.are_same_files.Goals as goal
 

@@ -1,6 +1,5 @@
 use Rattle.std.proofs.Common.{◌≡◌, ℕ, List, take}
-use Rattle.generation.specs.Layouts.{Placed}
-use Rattle.generation.specs.Inner.Stays.{bytes_of_all}
+use Rattle.generation.proofs.Words.{Placed, bytes_of_all}
 use Rattle.generation.proofs.unchanged.are_same_files.Given as goal
 
 abbrev pub invariant-loop-place : goal.invariant-loop-place

@@ -1,5 +1,5 @@
 use Rattle.std.proofs.Common.{sym, ◌∙◌}
-use Rattle.std.proofs.lemmas.Bool.{not-false}
+use Rattle.generation.proofs.Words.{not-false}
 use Rattle.generation.proofs.Sharing.{same_file, equal_order}
 use Rattle.generation.proofs.unchanged.is_same_file.Goals as goal
 

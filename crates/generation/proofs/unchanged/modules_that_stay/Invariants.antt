@@ -1,6 +1,5 @@
 use Rattle.std.proofs.Common.{◌≡◌, length, map}
-use Rattle.generation.specs.Inner.Stays.{SameModules}
-use Rattle.generation.specs.View.{view_placed}
+use Rattle.generation.proofs.Words.{SameModules, view_placed}
 use Rattle.generation.proofs.unchanged.modules_that_stay.Given as goal
 
 abbrev pub invariant-loop-id : goal.invariant-loop-id

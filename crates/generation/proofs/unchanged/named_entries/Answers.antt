@@ -1,9 +1,6 @@
 use Rattle.std.proofs.Common.{◌≡◌, ◌+◌, ◌++◌, ◌∷◌, [], true, None, Some, length, take, set, ap, sym, ◌∙◌, subst, arith, rules}
-use Rattle.std.specs.Prelude.{IfNone}
 use Rattle.std.proofs.Math.ListN.{length-set}
-use Rattle.std.proofs.lemmas.Grind.{common_steps}
-use Rattle.std.proofs.lemmas.List.{take_more, take_all}
-use Rattle.path_tree.specs.Trees.{entry_at}
+use Rattle.generation.proofs.Words.{common_steps, take_more, take_all, entry_at}
 use Rattle.generation.proofs.Sharing.{AreNamed, as_before, one_named, none_there}
 use Rattle.generation.proofs.unchanged.named_entries.Goals as goal
 use Rattle.generation.proofs.unchanged.named_entries.Goals.{in-Some, in_default}
@@ -26,7 +23,7 @@ loop-edit-preserved c =
                 (one_named t flags (take i edits) e w.in-Some.entry c.entries.ensures.tree (w.in-Some.ensures.found ∙ ap Some c.path.ensures) c.loop-edit.invariant.named));
           }
       | in_default w ↦
-          let none : entry_at t c.path.result.now ≡ None = subst (λ r. IfNone r (entry_at t c.path.result.now ≡ None)) w.in_default.is c.find.ensures.none in
+          let none : entry_at t c.path.result.now ≡ None = rw w.in_default.is at c.find.ensures.none in
           record {
             as_many = ap (λ v. length v.items) w.named-is ∙ c.loop-edit.invariant.as_many;
             named = subst (λ v. AreNamed t v.items (take (i + 1) edits)) (sym w.named-is)

@@ -1,4 +1,4 @@
-use Rattle.std.proofs.Common.{◌≡◌, take}
+use Rattle.history_merge.proofs.Words.{◌≡◌, take}
 use Rattle.history_merge.proofs.again.edits_again.Given as goal
 
 abbrev pub invariant-loop-edit : goal.invariant-loop-edit

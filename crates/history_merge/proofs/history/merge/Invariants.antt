@@ -1,6 +1,4 @@
-use Rattle.std.proofs.Common.{map}
-use Rattle.history_merge.specs.Merges.{known_view, fates_view}
-use Rattle.history_merge.specs.Inner.Waiting.{view_waiting}
+use Rattle.history_merge.proofs.Words.{map, known_view, fates_view, view_waiting}
 use Rattle.history_merge.proofs.Telling.{IsMerging}
 use Rattle.history_merge.proofs.history.merge.Given as goal
 

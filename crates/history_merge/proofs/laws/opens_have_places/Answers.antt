@@ -1,4 +1,4 @@
-use Rattle.history_merge.specs.Merged.{is_open_by, is_draw_step}
+use Rattle.history_merge.proofs.Words.{is_open_by, is_draw_step}
 use Rattle.history_merge.proofs.Merged.{stands_at, last_at}
 use Rattle.history_merge.proofs.laws.opens_have_places.Goals as goal
 

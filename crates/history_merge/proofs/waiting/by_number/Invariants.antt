@@ -1,6 +1,4 @@
-use Rattle.std.proofs.Common.{◌≡◌, ◌-◌, ◌++◌, map}
-use Rattle.std.specs.List.{flat_map, range_with_len}
-use Rattle.history_merge.specs.Inner.Waiting.{view_waiting, waited_by}
+use Rattle.history_merge.proofs.Words.{◌≡◌, ◌-◌, ◌++◌, map, flat_map, range_with_len, view_waiting, waited_by}
 use Rattle.history_merge.proofs.waiting.by_number.Given as goal
 
 abbrev pub invariant-loop-number : goal.invariant-loop-number

@@ -1,5 +1,4 @@
-use Rattle.std.proofs.Common.{◌≡◌, ◌+◌, ◌≤◌, length, drop}
-use Rattle.history_merge.specs.Inner.Waiting.{count_first_opens}
+use Rattle.history_merge.proofs.Words.{◌≡◌, ◌+◌, ◌≤◌, length, drop, count_first_opens}
 use Rattle.history_merge.proofs.waiting.front_of.Given as goal
 
 abbrev pub invariant-loop-place : goal.invariant-loop-place

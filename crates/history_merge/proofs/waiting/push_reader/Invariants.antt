@@ -1,5 +1,4 @@
-use Rattle.std.proofs.Common.{◌≡◌, ◌++◌, map, drop}
-use Rattle.history_merge.specs.Inner.Waiting.{view_waiting, waited_by}
+use Rattle.history_merge.proofs.Words.{◌≡◌, ◌++◌, map, drop, view_waiting, waited_by}
 use Rattle.history_merge.proofs.waiting.push_reader.Given as goal
 
 abbrev pub invariant-loop-pass : goal.invariant-loop-pass

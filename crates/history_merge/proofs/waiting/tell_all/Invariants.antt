@@ -1,7 +1,4 @@
-use Rattle.std.proofs.Common.{◌++◌, map}
-use Rattle.std.specs.List.{flat_map}
-use Rattle.history_merge.specs.Merges.{known_view}
-use Rattle.history_merge.specs.Inner.Waiting.{view_waiting, opened_at}
+use Rattle.history_merge.proofs.Words.{◌++◌, map, flat_map, known_view, view_waiting, opened_at}
 use Rattle.history_merge.proofs.Turns.{IsTelling}
 use Rattle.history_merge.proofs.waiting.tell_all.Given as goal
 

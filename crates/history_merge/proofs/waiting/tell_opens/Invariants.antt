@@ -1,6 +1,4 @@
-use Rattle.std.proofs.Common.{◌≡◌, ◌++◌, map, drop}
-use Rattle.history_merge.specs.Merging.{opened_of}
-use Rattle.history_merge.specs.Merges.{known_view}
+use Rattle.history_merge.proofs.Words.{◌≡◌, ◌++◌, map, drop, opened_of, known_view}
 use Rattle.history_merge.proofs.waiting.tell_opens.Given as goal
 
 abbrev pub invariant-loop-opened : goal.invariant-loop-opened

@@ -2,7 +2,7 @@ use Rattle.std.proofs.Common.{◌≡◌, ◌++◌, ◌∷◌, [], map}
 use Rattle.std.proofs.lemmas.Result.{err_from_is_err_and}
 use Rattle.std.proofs.lemmas.List.{map_push}
 use Rattle.ior_tap.specs.Iors.{view_profile, cause}
-use Rattle.ior_tap.specs.IorReading.{profile_at}
+use Rattle.ior_tap.specs.Inner.IorReading.{profile_at}
 use Rattle.oc_bytes.specs.Cursor.{each_at}
 use Rattle.oc_bytes.proofs.CallerLemmas.{begins, goes_on, ends, is_done}
 use Rattle.ior_tap.proofs.reading.profiles_of.Goals as goal

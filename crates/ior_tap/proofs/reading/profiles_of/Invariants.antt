@@ -1,6 +1,6 @@
 use Rattle.std.proofs.Common.{◌≡◌, ◌-◌, map}
 use Rattle.ior_tap.specs.Iors.{view_profile}
-use Rattle.ior_tap.specs.IorReading.{profile_at}
+use Rattle.ior_tap.specs.Inner.IorReading.{profile_at}
 use Rattle.oc_bytes.specs.Cursor.{each_at}
 use Rattle.oc_bytes.proofs.CallerLemmas.{with_front}
 use Rattle.ior_tap.proofs.reading.profiles_of.Given as goal

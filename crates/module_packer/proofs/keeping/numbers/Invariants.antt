@@ -1,6 +1,6 @@
 use Rattle.module_groups.specs.declared.TheConstants.{GREATEST_ID}
 use Rattle.module_packer.specs.Kept.{Filled}
-use Rattle.module_packer.specs.Sums.{Tells}
+use Rattle.module_packer.specs.Inner.Sums.{Tells}
 use Rattle.module_packer.proofs.Passing.{Settling}
 use Rattle.module_packer.proofs.keeping.numbers.Given as goal
 

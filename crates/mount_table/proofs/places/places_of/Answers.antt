@@ -1,6 +1,6 @@
 use Rattle.std.proofs.Common.{ℕ, ◌+◌, Some, take, sym, ap, subst, ◌∙◌, arith}
 use Rattle.std.proofs.Math.ListN.{set}
-use Rattle.mount_table.specs.Places.{pids_of, ArePlaces}
+use Rattle.mount_table.specs.Inner.Places.{pids_of, ArePlaces}
 use Rattle.mount_table.proofs.Placing.{none_placed, only_none, placed_one, pid_in}
 use Rattle.mount_table.proofs.places.places_of.Goals as goal
 

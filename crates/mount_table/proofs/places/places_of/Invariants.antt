@@ -1,5 +1,5 @@
 use Rattle.std.proofs.Common.{take}
-use Rattle.mount_table.specs.Places.{pids_of, ArePlaces}
+use Rattle.mount_table.specs.Inner.Places.{pids_of, ArePlaces}
 use Rattle.mount_table.proofs.places.places_of.Given as goal
 
 abbrev pub invariant-loop-place : goal.invariant-loop-place

@@ -3,7 +3,7 @@ use Rattle.std.proofs.lemmas.List.{take_all}
 use Rattle.std.proofs.lemmas.Result.{IfOk-weaker}
 use Rattle.path_resolver.specs.Resolving.{answer_of}
 use Rattle.path_resolver.specs.Shots.{held_of}
-use Rattle.path_listing.specs.Walk.{folder_in}
+use Rattle.path_listing.specs.Inner.Walk.{folder_in}
 use Rattle.path_listing.proofs.Parts.{next_lists, full_lists, below_met, below_none, below_some, walk_deep, walk_none, lists_as, lists_at, lists_pushed, lists_none, lists_nothing, lists_folder, few_after, met, unmet}
 use Rattle.path_listing.proofs.walking.+list.Goals as goal
 use Rattle.path_listing.proofs.walking.+list.Goals.{list_names-then-is_first+in_ok-whole+else-not-whole, list_names-else-is_first}

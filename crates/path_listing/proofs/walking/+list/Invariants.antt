@@ -1,7 +1,7 @@
 use Rattle.std.proofs.Common.{◌*◌, ◌+◌, ◌-◌, ◌≤◌, true, take, length}
 use Rattle.path_resolver.specs.Resolving.{answer_of}
 use Rattle.path_resolver.specs.Shots.{held_of}
-use Rattle.path_listing.specs.Walk.{Lists, paths_below}
+use Rattle.path_listing.specs.Inner.Walk.{Lists, paths_below}
 use Rattle.path_listing.proofs.walking.+list.Given as goal
 
 abbrev pub decreases-list_from : goal.decreases-list_from

@@ -1,6 +1,6 @@
 use Rattle.std.proofs.Common.{◌≡◌, false, get_or, arith, sym, ◌∙◌}
 use Rattle.psi_tables.specs.Stands.{view_followed}
-use Rattle.psi_tables.specs.Steps.{Heard}
+use Rattle.psi_tables.specs.Inner.Steps.{Heard}
 use Rattle.psi_tables.proofs.Following.{fed_one}
 use Rattle.psi_tables.proofs.directory.feed_all.Goals as goal
 use Rattle.psi_tables.proofs.directory.feed_all.Goals.{then-branch, else-branch}

@@ -1,7 +1,7 @@
 use Rattle.std.proofs.Common.{List, refl, sym, ap, ◌∙◌}
 use Rattle.section_stream.specs.Rules.{DemuxState}
 use Rattle.psi_tables.specs.declared.followed.Followed.{Followed}
-use Rattle.psi_tables.specs.Steps.{becomes_followed}
+use Rattle.psi_tables.specs.Inner.Steps.{becomes_followed}
 use Rattle.psi_tables.proofs.Following.{not_wanted, is_wanted}
 use Rattle.psi_tables.proofs.directory.follow.Goals as goal
 

@@ -1,6 +1,7 @@
 use Rattle.std.proofs.Common.{◌≡◌, map, drop}
 use Rattle.psi_tables.specs.Finding.{first_named}
-use Rattle.psi_tables.specs.Stands.{view_followed, named_by}
+use Rattle.psi_tables.specs.Stands.{view_followed}
+use Rattle.psi_tables.specs.Inner.Stands.{named_by}
 use Rattle.psi_tables.proofs.directory.named_by_lines.Given as goal
 
 abbrev pub invariant-loop-line : goal.invariant-loop-line

@@ -1,8 +1,8 @@
 use Rattle.std.proofs.Common.{Ok, sym, ap, ◌∙◌, arith, subst}
-use Rattle.psi_tables.specs.Frames.{fields_of}
+use Rattle.long_section.specs.Frames.{fields_of}
 use Rattle.psi_tables.specs.Pats.{ReadsPat}
 use Rattle.psi_tables.proofs.Lines.{pat_found, pat_again, pat_is}
-use Rattle.psi_tables.proofs.Sections.{AreBytes, body_bytes}
+use Rattle.long_section.proofs.CallerLemmas.{AreBytes, body_bytes}
 use Rattle.psi_tables.proofs.pat.decode_pat.Goals as goal
 
 pub returns-in_err-frame-clause-only : goal.returns-in_err-frame-clause-only

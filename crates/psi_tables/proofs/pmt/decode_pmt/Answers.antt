@@ -1,8 +1,8 @@
 use Rattle.std.proofs.Common.{Ok, sym, ap, ◌∙◌, arith, subst}
-use Rattle.psi_tables.specs.Frames.{fields_of}
+use Rattle.long_section.specs.Frames.{fields_of}
 use Rattle.psi_tables.specs.Pmts.{ReadsPmt}
 use Rattle.psi_tables.proofs.Streams.{pmt_found, pmt_again, pmt_is}
-use Rattle.psi_tables.proofs.Sections.{AreBytes, body_bytes}
+use Rattle.long_section.proofs.CallerLemmas.{AreBytes, body_bytes}
 use Rattle.psi_tables.proofs.pmt.decode_pmt.Goals as goal
 
 pub returns-in_err-frame-clause-only : goal.returns-in_err-frame-clause-only

@@ -1,7 +1,8 @@
 use Rattle.std.proofs.Common.{◌≡◌, List, [], ◌∷◌, ◌++◌, map, refl, sym, ap, ◌∙◌}
 use Rattle.std.proofs.lemmas.List.{append-nil, map-append}
 use Rattle.psi_tables.specs.declared.tables.PmtLine.{PmtLine}
-use Rattle.psi_tables.specs.Pmts.{view_stream, view_line, lines_of, LineFields}
+use Rattle.psi_tables.specs.Pmts.{view_line, lines_of, LineFields}
+use Rattle.psi_tables.specs.Inner.Pmts.{view_stream}
 use Rattle.psi_tables.proofs.Runs.{listed_more, listed_end, is_line, is_no_line}
 use Rattle.psi_tables.proofs.pmt.lines_from.Goals as goal
 

@@ -7,4 +7,4 @@ use Rattle.psi_tables.proofs.written.written_pat.Goals as goal
 
 pub returns-clause-reads : goal.returns-clause-reads
 returns-clause-reads c =
-    IfOk-weaker c.with_crc.result _ _ (λ v is. subst (λ (bytes : List ℕ). ReadsPat bytes pat_value) (sym is) pat_reads) c.with_crc.ensures
+    IfOk-weaker c.written_table.result _ _ (λ v is. subst (λ (bytes : List ℕ). ReadsPat bytes pat_value) (sym is) pat_reads) c.written_table.ensures

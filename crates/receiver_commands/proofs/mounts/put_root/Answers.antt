@@ -4,7 +4,7 @@ use Rattle.std.proofs.lemmas.List.{length-map}
 use Rattle.mount_table.specs.declared.mount.Mount.{Mount}
 use Rattle.mount_table.specs.Stands.{mounts_of}
 use Rattle.shell_streams.proofs.CallerLemmas.{puts_none, puts_then, puts_stop, puts_as}
-use Rattle.receiver_commands.specs.Mounts.{root_line}
+use Rattle.receiver_commands.specs.Inner.Mounts.{root_line}
 use Rattle.receiver_commands.proofs.mounts.put_root.Goals as goal
 
 pub returns-in_err-line : goal.returns-in_err-line

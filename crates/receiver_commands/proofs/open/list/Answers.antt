@@ -1,7 +1,8 @@
 use Rattle.std.proofs.Common.{ap, refl, Err}
 use Rattle.path_resolver.specs.Shots.{held_of}
 use Rattle.shell_streams.specs.Carriers.{sections_by}
-use Rattle.receiver_commands.specs.Open.{asks_all, answers_to}
+use Rattle.tuner_core.specs.LookBack.{answer_after}
+use Rattle.receiver_commands.specs.Open.{asks_all, reply_by}
 use Rattle.receiver_commands.proofs.Replying.{replies_stopped}
 use Rattle.receiver_commands.proofs.Answering.{answers_replied}
 use Rattle.receiver_commands.proofs.open.list.Goals as goal
@@ -11,4 +12,4 @@ returns-in-Ok-clause-answers g c = rw c.status_of.ensures (answers_replied (sect
     c.write_list.ensures.listed c.write_list.ensures.puts c.write_list.ensures.empty)
 
 pub returns-in-Err-clause-answers : goal.returns-in-Err-clause-answers
-returns-in-Err-clause-answers g c = rw c.from.ensures (replies_stopped (sections_by c.args.carrier) (answers_to asks_all) _ _ c.in-Err.fault c.in-Err.ensures.err (λ e. c.in-Err.ensures.cause (ap Err e)) refl)
+returns-in-Err-clause-answers g c = rw c.from.ensures (replies_stopped (sections_by c.args.carrier) (reply_by answer_after asks_all) _ _ c.in-Err.fault c.in-Err.ensures.err (λ e. c.in-Err.ensures.cause (ap Err e)) refl)

@@ -3,7 +3,8 @@ use Rattle.std.proofs.lemmas.Result.{IfOk-weaker}
 use Rattle.path_resolver.specs.Resolving.{answer_of}
 use Rattle.path_resolver.specs.Shots.{held_of}
 use Rattle.shell_streams.specs.Carriers.{sections_by}
-use Rattle.receiver_commands.specs.Open.{asks_paths, answers_to}
+use Rattle.tuner_core.specs.LookBack.{answer_after}
+use Rattle.receiver_commands.specs.Open.{asks_paths, reply_by}
 use Rattle.receiver_commands.proofs.Replying.{replies_stopped}
 use Rattle.receiver_commands.proofs.Answering.{answers_replied}
 use Rattle.receiver_commands.proofs.open.open.Goals as goal
@@ -14,7 +15,7 @@ returns-in-Ok-clause-answers g c = rw c.status_of.ensures (answers_replied (sect
     (c.write_answers.ensures.puts (answer_of (held_of c.deref.result.now)) refl) c.write_answers.ensures.empty)
 
 pub returns-in-Err-clause-answers : goal.returns-in-Err-clause-answers
-returns-in-Err-clause-answers g c = rw c.from.ensures (replies_stopped (sections_by c.args.carrier) (answers_to (asks_paths c.args.paths.now)) _ _ c.in-Err.fault c.in-Err.ensures.err (λ e. c.in-Err.ensures.cause (ap Err e)) refl)
+returns-in-Err-clause-answers g c = rw c.from.ensures (replies_stopped (sections_by c.args.carrier) (reply_by answer_after (asks_paths c.args.paths.now)) _ _ c.in-Err.fault c.in-Err.ensures.err (λ e. c.in-Err.ensures.cause (ap Err e)) refl)
 
 pub returns-in-Ok-clause-same : goal.returns-in-Ok-clause-same
 returns-in-Ok-clause-same g c = (c.write_answers.ensures.puts (answer_of (held_of c.deref.result.now)) refl).same

@@ -4,7 +4,7 @@ use Rattle.shell_streams.specs.Packets.{HasCut}
 use Rattle.shell_streams.specs.Sending.{HasPut}
 use Rattle.watch_desk.specs.Prefixes.{prefixes_of}
 use Rattle.receiver_commands.specs.Watch.{watched_paths, first_watchers, text_for}
-use Rattle.receiver_commands.specs.Watching.{StandsFor}
+use Rattle.receiver_commands.specs.Inner.Watching.{StandsFor}
 use Rattle.receiver_commands.proofs.watch.watch_all.Given as goal
 
 abbrev pub invariant-loop-reader : goal.invariant-loop-reader

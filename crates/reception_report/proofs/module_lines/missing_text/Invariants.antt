@@ -1,7 +1,7 @@
 use Rattle.std.proofs.Common.{◌≡◌, ◌++◌}
 use Rattle.std.specs.String.{string_bytes}
 use Rattle.module_cache.specs.Contents.{has_block}
-use Rattle.reception_report.specs.Missing.{IsBegun}
+use Rattle.reception_report.specs.Inner.Missing.{IsBegun}
 use Rattle.reception_report.specs.Telling.{missing_text}
 use Rattle.reception_report.proofs.Runs.{to_come}
 use Rattle.reception_report.proofs.module_lines.missing_text.Given as goal

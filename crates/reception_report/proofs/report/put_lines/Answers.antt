@@ -1,7 +1,7 @@
 use Rattle.std.proofs.Common.{arith, sym}
 use Rattle.std.proofs.lemmas.Result.{err_from_is_err_and}
 use Rattle.shell_streams.proofs.CallerLemmas.{puts_as}
-use Rattle.reception_report.specs.Telling.{module_if}
+use Rattle.reception_report.specs.Inner.Telling.{module_if}
 use Rattle.reception_report.proofs.Parts.{no_parts, part_put, part_stops, all_parts}
 use Rattle.reception_report.proofs.Rows.{rows_of}
 use Rattle.reception_report.proofs.report.put_lines.Goals as goal

@@ -1,5 +1,4 @@
-use Rattle.std.proofs.Common.{◌≡◌}
-use Rattle.rehearsal.specs.Lines.{filled_bytes}
+use Rattle.rehearsal.proofs.Words.{◌≡◌, filled_bytes}
 use Rattle.rehearsal.proofs.filling.filled.Given as goal
 
 abbrev pub invariant-loop-place : goal.invariant-loop-place

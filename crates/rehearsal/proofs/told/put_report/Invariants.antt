@@ -1,6 +1,4 @@
-use Rattle.std.proofs.Common.{take}
-use Rattle.std.specs.List.{flat_map}
-use Rattle.shell_streams.specs.Sending.{HasPut}
+use Rattle.rehearsal.proofs.Words.{take, flat_map, HasPut}
 use Rattle.rehearsal.proofs.Telling.{told_line}
 use Rattle.rehearsal.proofs.told.put_report.Given as goal
 

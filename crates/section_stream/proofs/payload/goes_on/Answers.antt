@@ -1,5 +1,5 @@
 use Rattle.std.proofs.Common.{◌++◌, Some, refl, sym, ◌∙◌, ap}
-use Rattle.section_stream.specs.Steps.{bytes_of}
+use Rattle.section_stream.specs.Inner.Steps.{bytes_of}
 use Rattle.section_stream.proofs.Completing.{on_err, on_err_both}
 use Rattle.section_stream.proofs.Handing.{goes_none, goes_growing, goes_oversize, goes_whole, goes_out, still_open, whole_with, length_items}
 use Rattle.section_stream.proofs.Opening.{growing_bound, whole_bounds, whole_most}

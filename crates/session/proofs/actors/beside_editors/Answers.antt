@@ -1,10 +1,7 @@
-use Rattle.std.proofs.Common.{rules, ℕ, ◌<◌, List, length, slice_index_or, subst}
-use Rattle.session.specs.declared.editor.EditorSeat.{EditorSeat}
-use Rattle.session.specs.Seats.{DidEdit}
+use Rattle.session.proofs.Words.{rules, ℕ, ◌<◌, List, length, slice_index_or, subst, EditorSeat, DidEdit}
 use Rattle.session.proofs.actors.beside_editors.Goals as goal
 
 pub returns-clause-editors : goal.returns-clause-editors
-returns-clause-editors g c =
-    let old = c.args.editors.now in
+returns-clause-editors g c = let old = c.args.editors.now in
     let Did : List EditorSeat → Type 0 = λ new. (i : ℕ) (d : EditorSeat) → i < length old → DidEdit c.args.station.now (slice_index_or old i d) (slice_index_or new i d) in
     subst Did {x = c.join_mut.new.f.4.now} (search rules) c.join_mut.ensures.0.met.1

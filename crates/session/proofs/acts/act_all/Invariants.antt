@@ -1,5 +1,4 @@
-use Rattle.shot_board.specs.Showers.{shown_by, IsSameBoard}
-use Rattle.session.specs.Inner.Casting.{AreSameActors, IsCast}
+use Rattle.session.proofs.Words.{shown_by, IsSameBoard, AreSameActors, IsCast}
 use Rattle.session.proofs.Events.{HasActed}
 use Rattle.session.proofs.acts.act_all.Given as goal
 

@@ -1,7 +1,4 @@
-use Rattle.std.proofs.Common.{◌≡◌, ◌++◌, ℕ, List, map, false}
-use Rattle.path_tree.specs.declared.tree.Edit.{Edit}
-use Rattle.station.specs.Passes.{IsStationPass}
-use Rattle.session.specs.Seats.{HasCommitted, edits_of}
+use Rattle.session.proofs.Words.{◌≡◌, ◌++◌, ℕ, List, map, false, Edit, IsStationPass, HasCommitted, edits_of}
 use Rattle.session.proofs.editor.edit.Given as goal
 
 -- the commits so far were made

@@ -1,6 +1,4 @@
-use Rattle.std.proofs.Common.{take, length, map}
-use Rattle.session.specs.Inner.ByActor.{lists_of}
-use Rattle.session.specs.Seats.{edits_of}
+use Rattle.session.proofs.Words.{take, length, map, lists_of, edits_of}
 use Rattle.session.proofs.Editing.{AreNewSeats}
 use Rattle.session.proofs.Taking.{AreLeft}
 use Rattle.session.proofs.editors.editor_seats.Given as goal

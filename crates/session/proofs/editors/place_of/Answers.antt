@@ -1,10 +1,4 @@
-use Rattle.std.proofs.Common.{ℕ, sym, ap, ◌∙◌, arith}
-use mathlib.Core.Logic.{dite}
-use native.Mathlib.Decide.{ℕ_discrete}
-use Rattle.std.specs.Prelude.{slice_index_or}
-use Rattle.std.proofs.lemmas.List.{get_or-map}
-use Rattle.session.specs.declared.editor.EditorSeat.{EditorSeat}
-use Rattle.session.specs.Inner.Acting.{numbers_of}
+use Rattle.session.proofs.Words.{ℕ, sym, ap, ◌∙◌, arith, dite, ℕ_discrete, slice_index_or, get_or-map, EditorSeat, numbers_of}
 use Rattle.session.proofs.editors.place_of.Goals as goal
 
 pub loop-place-preserved : goal.loop-place-preserved

@@ -1,10 +1,4 @@
-use Rattle.std.proofs.Common.{ap, map, sym, subst}
-use Rattle.shot_board.specs.Showers.{shown_by, shower_board, most_by}
-use Rattle.station.specs.Passes.{weights_of}
-use Rattle.session_script.specs.Parts.{script_of_parts}
-use Rattle.history_merge.specs.Merges.{fates_view}
-use Rattle.session.specs.Inner.Ending.{view_closed}
-use Rattle.session.specs.Sessions.{IsSession}
+use Rattle.session.proofs.Words.{ap, map, sym, subst, shown_by, shower_board, most_by, weights_of, script_of_parts, fates_view, view_closed, IsSession}
 use Rattle.session.proofs.Finale.{may_draw, may_read, ends_well}
 use Rattle.session.proofs.Planning.{if_ok_map}
 use Rattle.session.proofs.ending.end.Goals as goal
@@ -13,19 +7,16 @@ pub end_of_threads-requires-clause-editors : goal.end_of_threads-requires-clause
 end_of_threads-requires-clause-editors g c = λ k d lt. (c.requires.ready.1.committed.1 k d lt).pass
 
 pub settle-requires-clause-room : goal.settle-requires-clause-room
-settle-requires-clause-room g c κs within =
-    let r = c.requires.ready in
+settle-requires-clause-room g c κs within = let r = c.requires.ready in
     may_draw r.0 c.args.station c.args.settles c.args.numbers.now c.args.editors.items c.args.feeder c.args.readers.items (shown_by c.args.shower.now) r.1 (most_by c.args.shower.now) r.3
 
 pub read_all-requires : goal.read_all-requires
-read_all-requires g c =
-    let r = c.requires.ready in
+read_all-requires g c = let r = c.requires.ready in
     may_read r.0 c.args.station c.args.settles c.args.numbers.now c.args.editors.items c.args.feeder c.args.readers.items (shown_by c.args.shower.now) r.1
     (shower_board c.settle.new.shower) (shower_board c.args.shower.now) (shown_by c.settle.new.shower) r.2 c.settle.ensures.board.0 c.in_ok-settle.ensures.count
 
 pub merge-requires : goal.merge-requires
-merge-requires g c =
-    let r = c.requires.ready in
+merge-requires g c = let r = c.requires.ready in
     (ends_well c.played_is_a_session.ensures c.args.station c.args.settles c.args.editors.items c.args.feeder c.args.readers.items c.in_ok-passes.passes.items c.deref-2.result.now
     (shown_by c.args.shower.now) (shown_by c.settle.new.shower) (view_closed c.in_ok-closed.closed) (view_closed c.settle.new.self) c.deref.result.now c.entries.result.now c.args.numbers.now
     c.in_ok-closed.ensures.gathered c.in_ok-settle.ensures.drawn c.in_ok-settle.ensures.gathered c.in_ok-passes.ensures.read

@@ -1,4 +1,4 @@
-use Rattle.generation_catalogue.specs.View.{state}
+use Rattle.session.proofs.Words.{state}
 use Rattle.session.proofs.Closing.{gathered_of, all_passes}
 use Rattle.session.proofs.ending.end_of_threads.Goals as goal
 

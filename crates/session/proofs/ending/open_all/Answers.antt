@@ -1,19 +1,12 @@
-use Rattle.std.proofs.Common.{rules, subst, List}
-use Rattle.std.proofs.lemmas.Iterator.Consumers.{YieldsList-turn, YieldsList-end}
-use Rattle.std.proofs.lemmas.Iterator.Adapters.{YieldsList-from_vec}
-use Rattle.path_tree.specs.Paths.{PathNames}
-use Rattle.session.specs.Inner.Ending.{HasOpenedLast}
+use Rattle.session.proofs.Words.{rules, subst, List, PathNames, HasOpenedLast, item_comes, items_came}
 use Rattle.session.proofs.Lasting.{opened_next, opened_none, room_now}
-use Rattle.session.proofs.Turning.{all_done}
 use Rattle.session.proofs.ending.open_all.Goals as goal
 
 pub loop-path-init : goal.loop-path-init
 loop-path-init c = opened_none c.args.pass.now
 
 pub open-requires : goal.open-requires
-open-requires c =
-    let turn = YieldsList-turn (YieldsList-from_vec {s = c.into_iter-path-iterator.result} c.args.paths.items (search rules) (search rules))
-    c.loop-path.yielded c.loop-path.path-iterator c.loop-path.yielded_by c.next.result c.next.new.self c.in-Some.path c.in-Some.is c.next.ensures.steps in
+open-requires c = let turn = item_comes c.into_iter-path-iterator.result c.args.paths.items (search rules) (search rules) c.loop-path.yielded c.loop-path.path-iterator c.loop-path.yielded_by c.next.new.self c.in-Some.is c.next.ensures.steps in
     room_now c.args.pass.now.known c.loop-path.yielded c.args.pass.now c.loop-path.pass _ c.loop-path.invariant turn.0 c.requires.room
 
 pub loop-path-preserved : goal.loop-path-preserved
@@ -22,7 +15,5 @@ loop-path-preserved c =
     c.open.ensures.same c.open.ensures.known c.open.ensures.most c.in_ok-open.ensures.opened c.in_ok-open.ensures.count
 
 pub returns : goal.returns
-returns c =
-    let end = YieldsList-end (YieldsList-from_vec {s = c.into_iter-path-iterator.result} c.args.paths.items (search rules) (search rules))
-    c.loop-path.yielded c.loop-path.path-iterator c.loop-path.yielded_by c.next.result c.next.new.self c.in-None.is c.next.ensures.steps in
-    subst (λ (ps : List PathNames). HasOpenedLast c.args.pass.now.known ps c.args.pass.now c.loop-path.pass) (all_done c.loop-path.yielded c.args.paths.items end.0) c.loop-path.invariant
+returns c = let end = items_came c.into_iter-path-iterator.result c.args.paths.items (search rules) (search rules) c.loop-path.yielded c.loop-path.path-iterator c.loop-path.yielded_by c.next.new.self c.in-None.is c.next.ensures.steps in
+    subst (λ (ps : List PathNames). HasOpenedLast c.args.pass.now.known ps c.args.pass.now c.loop-path.pass) end c.loop-path.invariant

@@ -1,4 +1,4 @@
-use Rattle.session.specs.Inner.Ending.{HasOpenedLast}
+use Rattle.session.proofs.Words.{HasOpenedLast}
 use Rattle.session.proofs.ending.open_all.Given as goal
 
 abbrev pub invariant-loop-path : goal.invariant-loop-path

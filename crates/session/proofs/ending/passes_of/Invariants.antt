@@ -1,5 +1,4 @@
-use Rattle.std.proofs.Common.{◌≡◌, map}
-use Rattle.session.specs.declared.editor.EditorSeat.{EditorSeat}
+use Rattle.session.proofs.Words.{◌≡◌, map, EditorSeat}
 use Rattle.session.proofs.ending.passes_of.Given as goal
 
 abbrev pub invariant-loop-seat : goal.invariant-loop-seat

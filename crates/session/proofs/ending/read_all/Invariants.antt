@@ -1,6 +1,4 @@
-use Rattle.std.proofs.Common.{◌≡◌}
-use Rattle.shot_board.specs.Showers.{shown_by, IsSameBoard}
-use Rattle.session.specs.Inner.Ending.{AllReadLast}
+use Rattle.session.proofs.Words.{◌≡◌, shown_by, IsSameBoard, AllReadLast}
 use Rattle.session.proofs.ending.read_all.Given as goal
 
 abbrev pub invariant-loop-seat : goal.invariant-loop-seat

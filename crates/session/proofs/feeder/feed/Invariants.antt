@@ -1,8 +1,4 @@
-use Rattle.std.proofs.Common.{◌≡◌, ◌++◌, ◌+◌, List, map, length, false}
-use Rattle.shot_board.specs.Showers.{shown_by, IsSameBoard}
-use Rattle.station.specs.Passes.{IsStationPass}
-use Rattle.session.specs.Chains.{DrawFields}
-use Rattle.session.specs.Seats.{HasFed, draw_of}
+use Rattle.session.proofs.Words.{◌≡◌, ◌++◌, ◌+◌, List, map, length, false, shown_by, IsSameBoard, IsStationPass, DrawFields, HasFed, draw_of}
 use Rattle.session.proofs.feeder.feed.Given as goal
 
 -- the draws so far were made

@@ -1,6 +1,4 @@
-use Rattle.std.proofs.Common.{◌≤◌, ◌-◌, length, map, take}
-use Rattle.generation.specs.Layouts.{section_of}
-use Rattle.carousel_world.proofs.CallerLemmas.{SentSo}
+use Rattle.session.proofs.Words.{◌≤◌, ◌-◌, length, map, take, section_of, SentSo}
 use Rattle.session.proofs.feeder.send.Given as goal
 
 -- the items so far were sent, and the draw goes on

@@ -1,11 +1,5 @@
-use Rattle.std.proofs.Common.{rules, ◌∷◌, ◌++◌, List, [], ap, sym, ◌∙◌, subst}
-use Rattle.std.specs.List.{All, Contains}
-use Rattle.std.specs.Arc.{arc_value}
-use Rattle.cycle_planner.specs.declared.Item.{Item}
-use Rattle.generation.specs.Layouts.{GenerationState, items_of}
-use Rattle.path_resolver.specs.declared.shot.Shot.{Shot}
+use Rattle.session.proofs.Words.{rules, ◌∷◌, ◌++◌, List, [], ap, sym, ◌∙◌, subst, All, Contains, arc_value, Item, GenerationState, items_of, Shot, shown_by}
 use Rattle.shot_board.specs.declared.front.Front.{Front}
-use Rattle.shot_board.specs.Showers.{shown_by}
 use Rattle.session.proofs.Showing.{one_drawing_more, if_ok, if_err}
 use Rattle.session.proofs.feeder.send_and_show.Goals as goal
 use Rattle.session.proofs.feeder.send_and_show.Goals.{in-Ok, in-Err}

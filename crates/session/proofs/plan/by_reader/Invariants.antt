@@ -1,7 +1,4 @@
-use Rattle.std.proofs.Common.{◌≡◌, ℕ, map}
-use Rattle.session.specs.Inner.ByActor.{lists_of}
-use Rattle.session.specs.Lines.{opens_by}
-use Rattle.session.specs.Inner.Plans.{finale_step}
+use Rattle.session.proofs.Words.{◌≡◌, ℕ, map, lists_of, opens_by, finale_step}
 use Rattle.session.proofs.plan.by_reader.Given as goal
 
 abbrev pub invariant-loop-last : goal.invariant-loop-last

@@ -1,11 +1,10 @@
-use Rattle.std.proofs.Common.{arith}
+use Rattle.session.proofs.Words.{arith}
 use Rattle.session.proofs.Counting.{draw_counted, draw_passed, draws_few}
 use Rattle.session.proofs.plan.count_draws.Goals as goal
 use Rattle.session.proofs.plan.count_draws.Goals.{in-Draw, in_default, then-matches, else-matches}
 
 pub overflow_add-draws : goal.overflow_add-draws
-overflow_add-draws c =
-    let few = draws_few c.args.before.now c.loop-what.what-index c.what-item.result c.loop-what-test.true in
+overflow_add-draws c = let few = draws_few c.args.before.now c.loop-what.what-index c.what-item.result c.loop-what-test.true in
     let now = c.loop-what.invariant in omega (arith, few, now)
 
 pub loop-what-preserved : goal.loop-what-preserved

@@ -1,6 +1,4 @@
-use Rattle.std.proofs.Common.{◌≡◌, map, take, length}
-use Rattle.session.specs.Lines.{draws_in}
-use Rattle.session.specs.Inner.Acting.{view_happening}
+use Rattle.session.proofs.Words.{◌≡◌, map, take, length, draws_in, view_happening}
 use Rattle.session.proofs.plan.count_draws.Given as goal
 
 abbrev pub invariant-loop-what : goal.invariant-loop-what

@@ -1,12 +1,4 @@
-use Rattle.std.proofs.Common.{[], ◌∷◌, ◌++◌, List, Option, map, sym, ap, ◌∙◌, subst, append-nil}
-use Rattle.std.specs.Prelude.{IfSome}
-use Rattle.std.proofs.lemmas.List.{map-append}
-use Rattle.std.proofs.lemmas.List.Elements.{All-push}
-use Rattle.carousel_world.specs.Events.{Step}
-use Rattle.carousel_world.specs.World.{InRange}
-use Rattle.rehearsal.specs.declared.interpreter.Happening.{Happening}
-use Rattle.rehearsal.specs.Happening.{happened, view_happening}
-use Rattle.session.specs.Inner.Plans.{AreInRange}
+use Rattle.session.proofs.Words.{[], ◌∷◌, ◌++◌, List, Option, map, sym, ap, ◌∙◌, subst, append-nil, IfSome, map-append, All-push, Step, InRange, Happening, happened, view_happening, AreInRange}
 use Rattle.session.proofs.plan.happen.Goals as goal
 
 pub returns-in_ok-push-in-Some-clause-happens : goal.returns-in_ok-push-in-Some-clause-happens

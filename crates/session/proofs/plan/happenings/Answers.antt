@@ -1,18 +1,5 @@
-use Rattle.std.proofs.Common.{◌++◌, List, map, rules, sym, ap, ◌∙◌, subst}
-use Rattle.std.proofs.lemmas.Iterator.Consumers.{YieldsList-turn, YieldsList-end}
-use Rattle.std.proofs.lemmas.Iterator.Adapters.{YieldsList-from_vec}
-use Rattle.std.proofs.lemmas.List.Elements.{All-nil}
-use Rattle.session_script.specs.declared.parts.TaskLine.{TaskLine}
-use Rattle.session_script.specs.Parts.{act_of}
-use Rattle.session_script.specs.Ranges.{IsInRange}
-use Rattle.session_script.proofs.CallerLemmas.{at_place}
-use Rattle.carousel_world.specs.Events.{Step}
-use Rattle.carousel_world.specs.World.{InRange}
-use Rattle.rehearsal.specs.Lines.{Pending, events_of_line}
-use Rattle.rehearsal.specs.Happening.{Holds, view_happening}
-use Rattle.session.specs.Inner.Plans.{AreInRange, events_at, waiting_below}
+use Rattle.session.proofs.Words.{◌++◌, List, map, rules, sym, ap, ◌∙◌, subst, All-nil, TaskLine, act_of, IsInRange, at_place, Step, InRange, Pending, events_of_line, Holds, view_happening, AreInRange, events_at, waiting_below, item_comes, items_came}
 use Rattle.session.proofs.Planning.{events_more, waiting_more}
-use Rattle.session.proofs.Turning.{all_done}
 use Rattle.session.proofs.plan.happenings.Goals as goal
 
 pub loop-line-init : goal.loop-line-init
@@ -23,30 +10,22 @@ loop-line-init c = record {
 }
 
 pub happen-requires : goal.happen-requires
-happen-requires c =
-    let turn = YieldsList-turn (YieldsList-from_vec {s = c.into_iter-line-iterator.result} c.args.tasks.items (search rules) (search rules))
-    c.loop-line.yielded c.loop-line.line-iterator c.loop-line.yielded_by c.next.result c.next.new.self c.in-Some.line c.in-Some.is c.next.ensures.steps in
+happen-requires c = let turn = item_comes c.into_iter-line-iterator.result c.args.tasks.items (search rules) (search rules) c.loop-line.yielded c.loop-line.line-iterator c.loop-line.yielded_by c.next.new.self c.in-Some.is c.next.ensures.steps in
     at_place (λ (line : TaskLine). IsInRange (act_of line.task)) c.args.tasks.items _ c.in-Some.line c.requires turn.0 turn.1
 
 pub loop-line-preserved : goal.loop-line-preserved
-loop-line-preserved c =
-    let i = c.loop-line.invariant in
-    let y = c.loop-line.yielded in
+loop-line-preserved c = let i = c.loop-line.invariant in let y = c.loop-line.yielded in record {
+  happened = λ p h. c.in_ok-happen.ensures.happens (waiting_below p y) (i.waits p h)
+      ∙ ap (λ (es : List Step). es ++ events_of_line (waiting_below p y) (act_of c.in-Some.line.task)) (i.happened p h) ∙ sym (events_more p y c.in-Some.line);
+  range = c.in_ok-happen.ensures.range i.range;
+  waits = λ p h. subst (λ (q : Pending). Holds c.happen.new.interpreter q) (sym (waiting_more p y c.in-Some.line)) (c.in_ok-happen.ensures.waits (waiting_below p y) (i.waits p h));
+}
+
+pub returns : goal.returns
+returns c =
+    let end = items_came c.into_iter-line-iterator.result c.args.tasks.items (search rules) (search rules) c.loop-line.yielded c.loop-line.line-iterator c.loop-line.yielded_by c.next.new.self c.in-None.is c.next.ensures.steps in
     record {
-      happened = λ p h. c.in_ok-happen.ensures.happens (waiting_below p y) (i.waits p h)
-          ∙ ap (λ (es : List Step). es ++ events_of_line (waiting_below p y) (act_of c.in-Some.line.task)) (i.happened p h) ∙ sym (events_more p y c.in-Some.line);
-      range = c.in_ok-happen.ensures.range i.range;
-      waits = λ p h. subst (λ (q : Pending). Holds c.happen.new.interpreter q) (sym (waiting_more p y c.in-Some.line)) (c.in_ok-happen.ensures.waits (waiting_below p y) (i.waits p h));
+      happen = λ p h. c.loop-line.invariant.happened p h ∙ ap (events_at p) end;
+      range = c.loop-line.invariant.range;
+      waits = λ p h. subst (λ (ts : List TaskLine). Holds c.loop-line.interpreter (waiting_below p ts)) end (c.loop-line.invariant.waits p h);
     }
-
-pub returns-clause-happen : goal.returns-clause-happen
-returns-clause-happen c =
-    let end = YieldsList-end (YieldsList-from_vec {s = c.into_iter-line-iterator.result} c.args.tasks.items (search rules) (search rules))
-    c.loop-line.yielded c.loop-line.line-iterator c.loop-line.yielded_by c.next.result c.next.new.self c.in-None.is c.next.ensures.steps in
-    λ p h. c.loop-line.invariant.happened p h ∙ ap (events_at p) (all_done c.loop-line.yielded c.args.tasks.items end.0)
-
-pub returns-clause-waits : goal.returns-clause-waits
-returns-clause-waits c =
-    let end = YieldsList-end (YieldsList-from_vec {s = c.into_iter-line-iterator.result} c.args.tasks.items (search rules) (search rules))
-    c.loop-line.yielded c.loop-line.line-iterator c.loop-line.yielded_by c.next.result c.next.new.self c.in-None.is c.next.ensures.steps in
-    λ p h. subst (λ (ts : List TaskLine). Holds c.loop-line.interpreter (waiting_below p ts)) (all_done c.loop-line.yielded c.args.tasks.items end.0) (c.loop-line.invariant.waits p h)

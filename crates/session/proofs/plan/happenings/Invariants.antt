@@ -1,7 +1,4 @@
-use Rattle.std.proofs.Common.{◌≡◌, map}
-use Rattle.rehearsal.specs.Lines.{Pending}
-use Rattle.rehearsal.specs.Happening.{Holds, view_happening}
-use Rattle.session.specs.Inner.Plans.{AreInRange, events_at, waiting_below}
+use Rattle.session.proofs.Words.{◌≡◌, map, Pending, Holds, view_happening, AreInRange, events_at, waiting_below}
 use Rattle.session.proofs.plan.happenings.Given as goal
 
 abbrev pub invariant-loop-line : goal.invariant-loop-line

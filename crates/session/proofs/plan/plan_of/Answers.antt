@@ -1,7 +1,4 @@
-use Rattle.std.proofs.Common.{[], refl}
-use Rattle.session_script.proofs.CallerLemmas.{before_in_range, during_in_range}
-use Rattle.rehearsal.specs.Lines.{none_pending}
-use Rattle.session.specs.Inner.Plans.{waiting_below}
+use Rattle.session.proofs.Words.{[], refl, before_in_range, during_in_range, none_pending, waiting_below}
 use Rattle.session.proofs.plan.plan_of.Goals as goal
 
 pub happenings-requires : goal.happenings-requires
@@ -11,14 +8,12 @@ pub add_all-requires : goal.add_all-requires
 add_all-requires c = during_in_range c.args.parts.before.items c.args.parts.during.items c.args.parts.settle c.args.parts.finales.items c.requires.lines
 
 pub returns : goal.returns
-returns c =
-    let p = waiting_below none_pending c.args.parts.before.items in
-    record {
-      editors = refl;
-      readers = refl;
-      before = c.in_ok-before.ensures.happen none_pending c.new-interpreter.ensures;
-      range = c.in_ok-before.ensures.range;
-      work = c.in_ok-add_all.ensures [] p c.new-work.ensures (c.in_ok-before.ensures.waits none_pending c.new-interpreter.ensures);
-      settles = c.is_some.ensures;
-      finales = c.in_ok-finales.ensures;
-    }
+returns c = let p = waiting_below none_pending c.args.parts.before.items in record {
+  editors = refl;
+  readers = refl;
+  before = c.in_ok-before.ensures.happen none_pending c.new-interpreter.ensures;
+  range = c.in_ok-before.ensures.range;
+  work = c.in_ok-add_all.ensures [] p c.new-work.ensures (c.in_ok-before.ensures.waits none_pending c.new-interpreter.ensures);
+  settles = c.is_some.ensures;
+  finales = c.in_ok-finales.ensures;
+}

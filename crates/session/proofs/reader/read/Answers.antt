@@ -1,19 +1,11 @@
-use Rattle.std.proofs.Common.{rules, ◌≡◌, ◌+◌, ◌∷◌, [], ◌++◌, List, map, length, inl, ap, ◌∙◌, subst, arith, length-append}
-use Rattle.std.proofs.lemmas.Iterator.Consumers.{YieldsList-end}
-use Rattle.std.proofs.lemmas.Iterator.Adapters.{YieldsList-from_vec}
-use Rattle.path_tree.specs.Paths.{PathNames}
-use Rattle.session.specs.Opened.{Asked, HasOpened}
-use Rattle.session.specs.Seats.{asked_at}
+use Rattle.session.proofs.Words.{rules, ◌≡◌, ◌+◌, ◌∷◌, [], ◌++◌, List, map, length, inl, ap, ◌∙◌, subst, arith, length-append, PathNames, Asked, HasOpened, asked_at, items_came}
 use Rattle.session.proofs.Opening.{begins_later}
-use Rattle.session.proofs.Turning.{one_more, all_done}
+use Rattle.session.proofs.Turning.{one_more}
 use Rattle.session.proofs.reader.read.Goals as goal
 
 pub loop-path-preserved : goal.loop-path-preserved
-loop-path-preserved g c =
-    let i = c.loop-path.invariant in
-    let o = c.open.ensures in
-    let told_before : length c.loop-path.seat.pass.told ≡ length c.args.seat.now.pass.told = ap length i.told in
-    record {
+loop-path-preserved g c = let i = c.loop-path.invariant in let o = c.open.ensures in
+    let told_before : length c.loop-path.seat.pass.told ≡ length c.args.seat.now.pass.told = ap length i.told in record {
       unfinished = i.unfinished;
       finales = i.finales;
       same = (o.same.0 ∙ i.same.0, o.same.1 ∙ i.same.1, o.same.2 ∙ i.same.2, o.same.3 ∙ i.same.3);
@@ -27,11 +19,9 @@ loop-path-preserved g c =
     }
 
 pub returns : goal.returns
-returns g c =
-    let i = c.loop-path.invariant in
-    let end = YieldsList-end (YieldsList-from_vec {s = c.into_iter-path-iterator.result} c.replace-paths.result.items (search rules) (search rules))
-    c.loop-path.yielded c.loop-path.path-iterator c.loop-path.yielded_by c.next.result c.next.new.self c.in-None.is c.next.ensures.steps in
-    let all : c.loop-path.yielded ≡ c.args.seat.now.paths.items = all_done c.loop-path.yielded c.replace-paths.result.items end.0 ∙ ap (λ v. v.items) c.replace-paths.ensures.value in
+returns g c = let i = c.loop-path.invariant in
+    let end = items_came c.into_iter-path-iterator.result c.replace-paths.result.items (search rules) (search rules) c.loop-path.yielded c.loop-path.path-iterator c.loop-path.yielded_by c.next.new.self c.in-None.is c.next.ensures.steps in
+    let all : c.loop-path.yielded ≡ c.args.seat.now.paths.items = end ∙ ap (λ v. v.items) c.replace-paths.ensures.value in
     record {
       same = i.same;
       told = i.told;

@@ -1,8 +1,4 @@
-use Rattle.std.proofs.Common.{◌≡◌, ◌++◌, ◌+◌, ◌≤◌, ℕ, List, map, length, false}
-use mathlib.Core.List.{IsPrefix}
-use Rattle.open_history.specs.Opens.{IsSameReader}
-use Rattle.session.specs.Opened.{Asked, HasOpened}
-use Rattle.session.specs.Seats.{asked_at}
+use Rattle.session.proofs.Words.{◌≡◌, ◌++◌, ◌+◌, ◌≤◌, ℕ, List, map, length, false, IsPrefix, IsSameReader, Asked, HasOpened, asked_at}
 use Rattle.session.proofs.reader.read.Given as goal
 
 -- the paths so far were opened

@@ -1,10 +1,4 @@
-use Rattle.std.proofs.Common.{ℕ, sym, ap, ◌∙◌, arith}
-use mathlib.Core.Logic.{dite}
-use native.Mathlib.Decide.{ℕ_discrete}
-use Rattle.std.specs.Prelude.{slice_index_or}
-use Rattle.std.proofs.lemmas.List.{get_or-map}
-use Rattle.session.specs.declared.reader.ReaderSeat.{ReaderSeat}
-use Rattle.session.specs.Inner.Acting.{readers_of}
+use Rattle.session.proofs.Words.{ℕ, sym, ap, ◌∙◌, arith, dite, ℕ_discrete, slice_index_or, get_or-map, ReaderSeat, readers_of}
 use Rattle.session.proofs.readers.place_of.Goals as goal
 
 pub loop-place-preserved : goal.loop-place-preserved

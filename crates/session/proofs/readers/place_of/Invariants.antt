@@ -1,6 +1,4 @@
-use Rattle.std.proofs.Common.{ℕ, ◌<◌, ◌≢◌}
-use Rattle.std.specs.Prelude.{slice_index_or}
-use Rattle.session.specs.Inner.Acting.{readers_of}
+use Rattle.session.proofs.Words.{ℕ, ◌<◌, ◌≢◌, slice_index_or, readers_of}
 use Rattle.session.proofs.readers.place_of.Given as goal
 
 abbrev pub invariant-loop-place : goal.invariant-loop-place

@@ -1,11 +1,10 @@
-use Rattle.std.proofs.Common.{arith}
+use Rattle.session.proofs.Words.{arith}
 use Rattle.session.proofs.Counting.{opens_few, open_counted, open_passed}
 use Rattle.session.proofs.seating.count_opens.Goals as goal
 use Rattle.session.proofs.seating.count_opens.Goals.{then-is_open_by, else-is_open_by}
 
 pub overflow_add-opens : goal.overflow_add-opens
-overflow_add-opens c =
-    let few = opens_few c.args.before.now c.loop-what.what-index c.what-item.result c.loop-what-test.true c.args.reader in
+overflow_add-opens c = let few = opens_few c.args.before.now c.loop-what.what-index c.what-item.result c.loop-what-test.true c.args.reader in
     let now = c.loop-what.invariant in omega (arith, few, now)
 
 pub loop-what-preserved : goal.loop-what-preserved

@@ -1,6 +1,4 @@
-use Rattle.std.proofs.Common.{◌≡◌, map, take, length}
-use Rattle.session.specs.Lines.{opens_by}
-use Rattle.session.specs.Inner.Acting.{view_happening}
+use Rattle.session.proofs.Words.{◌≡◌, map, take, length, opens_by, view_happening}
 use Rattle.session.proofs.seating.count_opens.Given as goal
 
 abbrev pub invariant-loop-what : goal.invariant-loop-what

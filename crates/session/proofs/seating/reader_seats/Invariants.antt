@@ -1,6 +1,4 @@
-use Rattle.std.proofs.Common.{take, length, map}
-use Rattle.session.specs.Inner.ByActor.{lists_of}
-use Rattle.session.specs.Inner.Acting.{view_happening}
+use Rattle.session.proofs.Words.{take, length, map, lists_of, view_happening}
 use Rattle.session.proofs.Seated.{AreNewReaders, room_for}
 use Rattle.session.proofs.Taking.{AreLeft}
 use Rattle.session.proofs.seating.reader_seats.Given as goal

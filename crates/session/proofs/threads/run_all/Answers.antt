@@ -1,7 +1,4 @@
-use Rattle.std.proofs.Common.{arith, sym, subst}
-use Rattle.std.specs.List.{All}
-use Rattle.shot_board.specs.Showers.{shown_by, most_by}
-use Rattle.session.specs.Seats.{DidEdit, DidRead, IsEditorSeat, IsReaderSeat}
+use Rattle.session.proofs.Words.{arith, sym, subst, All, shown_by, most_by, DidEdit, DidRead, IsEditorSeat, IsReaderSeat}
 use Rattle.session.proofs.Doing.{cast_done, feeder_ready, may_end, put_back, readers_ready}
 use Rattle.session.proofs.threads.run_all.Goals as goal
 
@@ -15,13 +12,11 @@ pub run_actors-requires-clause-lines : goal.run_actors-requires-clause-lines
 run_actors-requires-clause-lines g c κs within = c.requires.setting.1.in_range
 
 pub run_actors-requires-clause-room : goal.run_actors-requires-clause-room
-run_actors-requires-clause-room g c κs within =
-    let set = c.requires.setting in
+run_actors-requires-clause-room g c κs within = let set = c.requires.setting in
     feeder_ready set.0 c.args.station.now (shown_by c.args.shower.now) c.args.cast.now (most_by c.args.shower.now) set.1 set.2 set.3.most
 
 pub run_actors-requires-clause-readers : goal.run_actors-requires-clause-readers
-run_actors-requires-clause-readers g c κs within =
-    let set = c.requires.setting in
+run_actors-requires-clause-readers g c κs within = let set = c.requires.setting in
     subst (All IsReaderSeat) (sym c.deref_mut-2.ensures.value) (readers_ready set.0 c.args.station.now (shown_by c.args.shower.now) c.args.cast.now set.1 set.2)
 
 pub returns-clause-passes : goal.returns-clause-passes

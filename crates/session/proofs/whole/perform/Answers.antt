@@ -1,13 +1,4 @@
-use Rattle.std.proofs.Common.{◌≡◌, ℕ, ◌+◌, true, List, length, map, refl, ap, ◌∙◌, subst, arith, []}
-use Rattle.session.specs.Inner.Casting.{CastStands, HasWork}
-use Rattle.session.specs.Inner.Playing.{IsBegun}
-use Rattle.station.specs.Passes.{pass_count}
-use Rattle.shot_board.specs.Showers.{shown_by}
-use Rattle.session_script.specs.Parts.{script_of_parts}
-use Rattle.history_merge.specs.Merges.{known_view}
-use Rattle.session.specs.declared.cast.Cast.{Cast}
-use Rattle.session.specs.Inner.Acting.{view_happening, Setting}
-use Rattle.session.specs.Sessions.{IsSession}
+use Rattle.session.proofs.Words.{◌≡◌, ℕ, ◌+◌, true, List, length, map, refl, ap, ◌∙◌, subst, arith, [], CastStands, HasWork, IsBegun, pass_count, shown_by, script_of_parts, known_view, Cast, view_happening, Setting, IsSession}
 use Rattle.session.proofs.Begun.{apart_editors, apart_readers, are_done, few_editors, few_readers, finales_are, has_work, mentioned, new_cast, popped_pass, stands_first, work_stays}
 use Rattle.session.proofs.Planning.{if_ok_map}
 use Rattle.session.proofs.whole.perform.Given.{Over}
@@ -15,42 +6,28 @@ use Rattle.session.proofs.whole.perform.Goals.{In_ok-reader_seats}
 use Rattle.session.proofs.whole.perform.Goals as goal
 
 pub overflow_cast-len : goal.overflow_cast-len
-overflow_cast-len g c =
-    let r = c.requires.set_up in
-    let few = few_editors r.0 (shown_by c.args.shower.now) c.args.start r.1 in
+overflow_cast-len g c = let r = c.requires.set_up in let few = few_editors r.0 (shown_by c.args.shower.now) c.args.start r.1 in
     let len = c.len.ensures in let ok = c.args.start.plan.editors.ok.0 in omega (arith, few, len, ok)
 
 pub new-requires : goal.new-requires
-new-requires g c =
-    let r = c.requires.set_up in
-    let few = few_editors r.0 (shown_by c.args.shower.now) c.args.start r.1 in
+new-requires g c = let r = c.requires.set_up in let few = few_editors r.0 (shown_by c.args.shower.now) c.args.start r.1 in
     let len = c.len.ensures in let ok = c.args.start.plan.editors.ok.0 in omega (arith, few, len, ok)
 
 pub editor_seats-requires-clause-passes : goal.editor_seats-requires-clause-passes
 editor_seats-requires-clause-passes g c = (popped_pass c.in_ok-station.station c.in_ok-station.passes.items c.pop.new.self.items c.pop.result c.in-Some.pass c.pop.ensures.items c.in-Some.is c.in_ok-station.ensures.passes).0
 
 pub editor_seats-requires-clause-count : goal.editor_seats-requires-clause-count
-editor_seats-requires-clause-count g c =
-    let r = c.requires.set_up in
-    let few = few_editors r.0 (shown_by c.args.shower.now) c.args.start r.1 in
-    let len = c.len.ensures in let ok = c.args.start.plan.editors.ok.0 in
-    let same = ap length c.deref.ensures.value in
-    let all = c.in_ok-station.ensures.all in
-    let left = c.in-Some.ensures.cases in
-    let before = c.in_ok-station.passes.ok.0 in
-    let after = c.pop.new.self.ok.0 in
+editor_seats-requires-clause-count g c = let r = c.requires.set_up in let few = few_editors r.0 (shown_by c.args.shower.now) c.args.start r.1 in
+    let len = c.len.ensures in let ok = c.args.start.plan.editors.ok.0 in let same = ap length c.deref.ensures.value in let all = c.in_ok-station.ensures.all in
+    let left = c.in-Some.ensures.cases in let before = c.in_ok-station.passes.ok.0 in let after = c.pop.new.self.ok.0 in
     (omega (arith, len, ok, same, all, left, before, after), omega (arith, few, same))
 
 pub editor_seats-requires-clause-apart : goal.editor_seats-requires-clause-apart
 editor_seats-requires-clause-apart g c = let r = c.requires.set_up in apart_editors r.0 (shown_by c.args.shower.now) c.args.start r.1 c.deref.result.now c.deref.ensures.value
 
 pub reader_seats-requires-clause-count : goal.reader_seats-requires-clause-count
-reader_seats-requires-clause-count g c =
-    let r = c.requires.set_up in
-    let few = few_readers r.0 (shown_by c.args.shower.now) c.args.start r.1 in
-    let same = ap length c.deref-2.ensures.value in
-    let each = c.requires.readers in
-    (omega (arith, same, each), omega (arith, few, same))
+reader_seats-requires-clause-count g c = let r = c.requires.set_up in let few = few_readers r.0 (shown_by c.args.shower.now) c.args.start r.1 in
+    let same = ap length c.deref-2.ensures.value in let each = c.requires.readers in (omega (arith, same, each), omega (arith, few, same))
 
 pub reader_seats-requires-clause-apart : goal.reader_seats-requires-clause-apart
 reader_seats-requires-clause-apart g c = let r = c.requires.set_up in apart_readers r.0 (shown_by c.args.shower.now) c.args.start r.1 c.deref-2.result.now c.deref-2.ensures.value
@@ -89,8 +66,7 @@ act_all-requires-clause-setting g c = λ κs within. let r = c.requires.set_up i
 
 pub run_all-requires-clause-setting : goal.run_all-requires-clause-setting
 run_all-requires-clause-setting g c = λ κs within.
-    let r = c.requires.set_up in
-    let seated = (goal.at.run_all-requires-clause-setting g c).In_ok-reader_seats in (
+    let r = c.requires.set_up in let seated = (goal.at.run_all-requires-clause-setting g c).In_ok-reader_seats in (
       r.0,
       work_stays r.0 (shown_by c.args.shower.now) c.args.start r.1 (cast g seated) c.act_all.new.cast c.act_all.ensures.actors (work g seated r.0 r.1),
       c.in_ok-act_all.ensures.stands r.0 r.1.planned.before (first g seated r.0 r.1),
@@ -99,8 +75,7 @@ run_all-requires-clause-setting g c = λ κs within.
 
 pub end-requires-clause-ready : goal.end-requires-clause-ready
 end-requires-clause-ready g c = λ κs within.
-    let r = c.requires.set_up in
-    let seated = (goal.at.end-requires-clause-ready g c).In_ok-reader_seats in
+    let r = c.requires.set_up in let seated = (goal.at.end-requires-clause-ready g c).In_ok-reader_seats in
     let count : pass_count c.in_ok-station.station ≡ length c.args.start.plan.editors.items + 1 =
     let made = c.in_ok-station.ensures.count in let len = c.len.ensures in let ok = c.args.start.plan.editors.ok.0 in omega (arith, made, len, ok) in (
       r.0,
@@ -112,10 +87,8 @@ end-requires-clause-ready g c = λ κs within.
     )
 
 pub returns : goal.returns
-returns g c =
-    if_ok_map c.end.result (λ told f setting u b.
-    let seated = (goal.at.returns g c).In_ok-reader_seats in
-    let count : pass_count c.in_ok-station.station ≡ length c.args.start.plan.editors.items + 1 =
+returns g c = if_ok_map c.end.result (λ told f setting u b.
+    let seated = (goal.at.returns g c).In_ok-reader_seats in let count : pass_count c.in_ok-station.station ≡ length c.args.start.plan.editors.items + 1 =
     let made = c.in_ok-station.ensures.count in let len = c.len.ensures in let ok = c.args.start.plan.editors.ok.0 in omega (arith, made, len, ok) in
     subst (λ (ws : List ℕ). IsSession ws (script_of_parts setting.parts) (map known_view told.items)) c.in_ok-station.ensures.weights
     (f setting (are_done setting (shown_by c.args.shower.now) c.args.start u c.in_ok-station.station c.run_all.new.cast (shown_by c.run_all.new.shower) c.deref-4.result.now c.deref-4.ensures.value c.in_ok-station.ensures.carousel count

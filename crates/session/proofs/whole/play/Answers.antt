@@ -1,11 +1,4 @@
-use Rattle.std.proofs.Common.{◌≡◌, ℕ, [], length, refl, ap, ◌∙◌, arith}
-use Rattle.std.specs.Arc.{arc_value}
-use Rattle.std.specs.declared.vec.Vec.{Vec}
-use Rattle.std.specs.declared.alloc.Global.{Global}
-use Rattle.shot_board.specs.Showers.{most_by, shower_board, shown_by}
-use Rattle.session.specs.declared.whole.Start.{Start}
-use Rattle.session.specs.Inner.Acting.{Setting, draws_of}
-use Rattle.session.specs.Inner.Playing.{IsBegun}
+use Rattle.session.proofs.Words.{◌≡◌, ℕ, [], length, refl, ap, ◌∙◌, arith, arc_value, Vec, Global, most_by, shower_board, shown_by, Start, Setting, draws_of, IsBegun}
 use Rattle.session.proofs.Begun.{draws_counted, first_shown, new_viewers}
 use Rattle.session.proofs.Planning.{if_ok_map}
 use Rattle.session.proofs.whole.play.Goals as goal
@@ -34,8 +27,7 @@ perform-told-requires-clause-set_up g c = λ κs within.
     (setting, begun, record { board = refl; most = most })
 
 pub returns : goal.returns
-returns g c =
-    let start : Start = record { plan = c.in_ok-plan.plan; downlink = c.in_ok-downlink.downlink; viewers = c.in_ok-shower.viewers } in
+returns g c = let start : Start = record { plan = c.in_ok-plan.plan; downlink = c.in_ok-downlink.downlink; viewers = c.in_ok-shower.viewers } in
     let setting : Setting = record { parts = c.args.parts; board = shower_board c.in_ok-shower.shower } in
     let most : most_by c.in_ok-shower.shower ≡ draws_of setting = c.in_ok-shower.ensures.most ∙ c.in_ok-most.ensures.count ∙ draws_counted setting c.in_ok-plan.plan c.in_ok-plan.ensures in
     let begun : IsBegun setting (shown_by c.in_ok-shower.shower) start = record {

@@ -1,6 +1,4 @@
-use Rattle.session_script.specs.declared.script.Stage.TheVariants.{After}
-use Rattle.session_script.specs.Scripts.{Open}
-use Rattle.session_script.specs.Parts.{finale_line}
+use Rattle.session_script.proofs.Imports.{After, Open, finale_line}
 use Rattle.session_script.proofs.Lining.{AreNumbered}
 use Rattle.session_script.proofs.generator.number_finales.Given as goal
 

@@ -1,5 +1,4 @@
-use Rattle.session_script.specs.declared.script.Stage.TheVariants.{During}
-use Rattle.session_script.specs.Parts.{act_of, task_line}
+use Rattle.session_script.proofs.Imports.{During, act_of, task_line}
 use Rattle.session_script.proofs.Lining.{AreNumbered}
 use Rattle.session_script.proofs.generator.number_tasks.Given as goal
 

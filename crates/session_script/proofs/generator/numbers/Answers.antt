@@ -1,6 +1,4 @@
-use Rattle.std.proofs.Common.{◌≡◌, ◌+◌, ◌-◌, ◌∙◌, ap, arith}
-use Rattle.std.specs.List.{range_with_len}
-use Rattle.session_script.specs.Generated.{numbers}
+use Rattle.session_script.proofs.Imports.{◌≡◌, ◌+◌, ◌-◌, ◌∙◌, ap, arith, range_with_len, numbers}
 use Rattle.session_script.proofs.Lists.{count_more}
 use Rattle.session_script.proofs.generator.numbers.Goals as goal
 
@@ -10,7 +8,5 @@ loop-number-preserved c =
 
 pub returns : goal.returns
 unfolding numbers
-returns c =
-    let end = c.loop-number.auto.number-end (omega arith) in
-    let all : c.loop-number.number - 1 ≡ c.args.size = omega (arith, end) in
+returns c = let end = c.loop-number.auto.number-end (omega arith) in let all : c.loop-number.number - 1 ≡ c.args.size = omega (arith, end) in
     c.loop-number.invariant ∙ ap (range_with_len 1) all

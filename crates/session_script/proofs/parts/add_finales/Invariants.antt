@@ -1,6 +1,4 @@
-use Rattle.std.proofs.Common.{◌≡◌, ◌++◌, map}
-use Rattle.session_script.specs.Scripts.{view_line}
-use Rattle.session_script.specs.Parts.{finale_line}
+use Rattle.session_script.proofs.Imports.{◌≡◌, ◌++◌, map, view_line, finale_line}
 use Rattle.session_script.proofs.parts.add_finales.Given as goal
 
 abbrev pub invariant-loop-last : goal.invariant-loop-last

@@ -1,6 +1,4 @@
-use Rattle.std.proofs.Common.{◌≡◌, ◌++◌, map}
-use Rattle.session_script.specs.Scripts.{view_line}
-use Rattle.session_script.specs.Parts.{task_line}
+use Rattle.session_script.proofs.Imports.{◌≡◌, ◌++◌, map, view_line, task_line}
 use Rattle.session_script.proofs.parts.add_tasks.Given as goal
 
 abbrev pub invariant-loop-line : goal.invariant-loop-line

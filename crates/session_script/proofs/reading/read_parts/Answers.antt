@@ -1,10 +1,7 @@
-use Rattle.std.proofs.Common.{◌≡◌, ◌<◌, ◌∙◌, ap, sym, subst, length, rules, tests, Ok, Err}
-use Rattle.std.proofs.lemmas.List.{length_push}
+use Rattle.session_script.proofs.Imports.{◌≡◌, ◌<◌, ◌∙◌, ap, sym, subst, length, rules, tests, Ok, Err, length_push, line_asks, Fields}
 use Rattle.std.proofs.lemmas.Result.{err_from_is_err_and}
 use Rattle.session_script.specs.declared.script.ScriptFault.TheVariants.{NoMemory}
-use Rattle.session_script.specs.Memory.{line_asks}
-use Rattle.session_script.specs.Scripts.{Fields}
-use Rattle.session_script.proofs.Walking.{walks, refused, ends, asks_here, asked_for, lines_ask, next_line, no_more_lines}
+use Rattle.session_script.proofs.Walking.{walks, refused, ends, asks_here, lines_ask, next_line, no_more_lines}
 use Rattle.session_script.proofs.Ranging.{scripts_range}
 use Rattle.session_script.proofs.Listing.{scripts_listed}
 use Rattle.session_script.proofs.reading.read_parts.Goals as goal
@@ -18,39 +15,26 @@ loop-line-preserved c =
 pub returns-in_err-read-clause-grammar : goal.returns-in_err-read-clause-grammar
 returns-in_err-read-clause-grammar c =
     let next = next_line _ c.args.text.now c.split-line-items.result c.into_iter-line-iterator.result c.loop-line.line-iterator c.next.new.self c.into_iter-line-iterator.ensures.into_iter_gives c.split-line-items.ensures.rest c.split-line-items.ensures.done c.split-line-items.ensures.closure c.loop-line.yielded c.loop-line.yielded_by _ c.next.ensures.steps (λ x r q k. search (rules, tests)) c.in-Some.line c.in-Some.is in
-    let p = err_from_is_err_and c.from_residual.result c.from_residual.ensures.1 in
-    rw (p.1, p.2)
+    let p = err_from_is_err_and c.from_residual.result c.from_residual.ensures.1 in rw (p.1, p.2)
     (refused (Unit {0}) c.args.text.now (length c.loop-line.yielded) c.loop-line.reading c.read.new.self c.in-Some.line.now c.loop-line.invariant next c.in_err-read.field-0.0
     (c.in_err-read.ensures.says c.loop-line.invariant.said c.loop-line.invariant.stands))
 
 pub returns-in_err-read-clause-memory : goal.returns-in_err-read-clause-memory
 returns-in_err-read-clause-memory c =
     let next = next_line _ c.args.text.now c.split-line-items.result c.into_iter-line-iterator.result c.loop-line.line-iterator c.next.new.self c.into_iter-line-iterator.ensures.into_iter_gives c.split-line-items.ensures.rest c.split-line-items.ensures.done c.split-line-items.ensures.closure c.loop-line.yielded c.loop-line.yielded_by _ c.next.ensures.steps (λ x r q k. search (rules, tests)) c.in-Some.line c.in-Some.is in
-    let p = err_from_is_err_and c.from_residual.result c.from_residual.ensures.1 in
-    λ h.
-    let q = sym p.1 ∙ h in
-    let e : c.in_err-read.field-0.0 ≡ NoMemory = cc in
+    let p = err_from_is_err_and c.from_residual.result c.from_residual.ensures.1 in λ h.
+    let q = sym p.1 ∙ h in let e : c.in_err-read.field-0.0 ≡ NoMemory = cc in
     asks_here c.args.text.now (length c.loop-line.yielded) c.loop-line.reading c.in-Some.line.now c.loop-line.invariant next
     (sym (ap (λ part. line_asks part c.in-Some.line.now) c.loop-line.invariant.stands.part) ∙ c.in_err-read.ensures.memory (ap Err e))
 
-pub returns-in_err-finish-clause-memory : goal.returns-in_err-finish-clause-memory
-returns-in_err-finish-clause-memory c = λ _. asked_for c.args.text.now (length c.loop-line.yielded) c.loop-line.reading c.loop-line.invariant c.in_err-finish.ensures.memory
-
-pub returns-clause-ranges : goal.returns-clause-ranges
-returns-clause-ranges c =
+pub returns : goal.returns
+returns c =
     let all = no_more_lines _ c.args.text.now c.split-line-items.result c.into_iter-line-iterator.result c.loop-line.line-iterator c.next.new.self c.into_iter-line-iterator.ensures.into_iter_gives c.split-line-items.ensures.rest c.split-line-items.ensures.done c.split-line-items.ensures.closure c.loop-line.yielded c.loop-line.yielded_by _ c.next.ensures.steps (λ x r q k. search (rules, tests)) c.in-None.is in
-    scripts_range c.args.text.now _ (ends c.args.text.now (length c.loop-line.yielded) c.loop-line.reading c.loop-line.invariant all ∙ ap Ok (sym c.in_ok-finish.ensures.parts))
-
-pub returns-clause-listed : goal.returns-clause-listed
-returns-clause-listed c =
-    let all = no_more_lines _ c.args.text.now c.split-line-items.result c.into_iter-line-iterator.result c.loop-line.line-iterator c.next.new.self c.into_iter-line-iterator.ensures.into_iter_gives c.split-line-items.ensures.rest c.split-line-items.ensures.done c.split-line-items.ensures.closure c.loop-line.yielded c.loop-line.yielded_by _ c.next.ensures.steps (λ x r q k. search (rules, tests)) c.in-None.is in
-    scripts_listed c.args.text.now _ (ends c.args.text.now (length c.loop-line.yielded) c.loop-line.reading c.loop-line.invariant all ∙ ap Ok (sym c.in_ok-finish.ensures.parts))
-
-pub returns-clause-asks : goal.returns-clause-asks
-returns-clause-asks c =
-    λ some. lines_ask c.args.text.now (length c.loop-line.yielded) c.loop-line.reading c.loop-line.invariant (subst (λ (script : Fields). 0 < length script.lines) c.in_ok-finish.ensures.parts some)
-
-pub returns-clause-grammar : goal.returns-clause-grammar
-returns-clause-grammar c =
-    let all = no_more_lines _ c.args.text.now c.split-line-items.result c.into_iter-line-iterator.result c.loop-line.line-iterator c.next.new.self c.into_iter-line-iterator.ensures.into_iter_gives c.split-line-items.ensures.rest c.split-line-items.ensures.done c.split-line-items.ensures.closure c.loop-line.yielded c.loop-line.yielded_by _ c.next.ensures.steps (λ x r q k. search (rules, tests)) c.in-None.is in
-    ends c.args.text.now (length c.loop-line.yielded) c.loop-line.reading c.loop-line.invariant all ∙ ap Ok (sym c.in_ok-finish.ensures.parts)
+    let meant = ends c.args.text.now (length c.loop-line.yielded) c.loop-line.reading c.loop-line.invariant all ∙ ap Ok (sym c.in_ok-finish.ensures.parts) in
+    record {
+      grammar = meant;
+      memory = search rules;
+      ranges = scripts_range c.args.text.now _ meant;
+      listed = scripts_listed c.args.text.now _ meant;
+      asks = λ some. lines_ask c.args.text.now (length c.loop-line.yielded) c.loop-line.reading c.loop-line.invariant (subst (λ (script : Fields). 0 < length script.lines) c.in_ok-finish.ensures.parts some);
+    }

@@ -1,4 +1,4 @@
-use Rattle.std.proofs.Common.{length}
+use Rattle.session_script.proofs.Imports.{length}
 use Rattle.session_script.proofs.Walking.{Walked}
 use Rattle.session_script.proofs.reading.read_parts.Given as goal
 

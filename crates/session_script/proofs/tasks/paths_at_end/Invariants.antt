@@ -1,7 +1,4 @@
-use Rattle.std.proofs.Common.{◌≡◌, ◌-◌, map}
-use Rattle.std.specs.List.{flat_map, range_with_len}
-use Rattle.session_script.specs.Scripts.{Open}
-use Rattle.session_script.specs.Generated.{finales_of}
+use Rattle.session_script.proofs.Imports.{◌≡◌, ◌-◌, map, flat_map, range_with_len, Open, finales_of}
 use Rattle.session_script.proofs.tasks.paths_at_end.Given as goal
 
 abbrev pub invariant-loop-editor : goal.invariant-loop-editor

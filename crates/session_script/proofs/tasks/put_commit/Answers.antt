@@ -1,13 +1,7 @@
-use Rattle.std.proofs.Common.{◌≡◌, ◌++◌, ◌+◌, ◌*◌, ◌∙◌, map, refl, ap, arith, append-nil, sym}
-use Rattle.std.specs.List.{range_with_len}
-use Rattle.session_script.specs.Parts.{act_of}
+use Rattle.session_script.proofs.Imports.{◌≡◌, ◌++◌, ◌+◌, ◌*◌, ◌∙◌, map, refl, ap, arith, range_with_len, act_of, fill_of, commit_of}
 use Rattle.session_script.specs.Scripts as acts
-use Rattle.session_script.specs.Generated.{fill_of, commit_of}
 use Rattle.session_script.proofs.Lists.{push_more, push_last}
 use Rattle.session_script.proofs.tasks.put_commit.Goals as goal
-
-pub loop-place-init : goal.loop-place-init
-loop-place-init c = sym (append-nil (map act_of c.args.tasks.now.items))
 
 pub loop-place-preserved : goal.loop-place-preserved
 loop-place-preserved c =
@@ -16,7 +10,6 @@ loop-place-preserved c =
 
 pub returns : goal.returns
 unfolding commit_of
-returns c =
-    let all : c.loop-place.place ≡ 8 = omega arith in
+returns c = let all : c.loop-place.place ≡ 8 = omega arith in
     rw c.in_ok-push-2.ensures.items (push_last act_of c.loop-place.tasks.items (map act_of c.args.tasks.now.items) (map (fill_of c.args.editor) (range_with_len (8 * c.args.commit) 8)) _
     (acts.Commit c.args.editor) (c.loop-place.invariant ∙ ap (λ n. map act_of c.args.tasks.now.items ++ map (fill_of c.args.editor) (range_with_len (8 * c.args.commit) n)) all) refl)

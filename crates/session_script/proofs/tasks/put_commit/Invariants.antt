@@ -1,7 +1,4 @@
-use Rattle.std.proofs.Common.{◌≡◌, ◌++◌, ◌*◌, map}
-use Rattle.std.specs.List.{range_with_len}
-use Rattle.session_script.specs.Parts.{act_of}
-use Rattle.session_script.specs.Generated.{fill_of}
+use Rattle.session_script.proofs.Imports.{◌≡◌, ◌++◌, ◌*◌, map, range_with_len, act_of, fill_of}
 use Rattle.session_script.proofs.tasks.put_commit.Given as goal
 
 abbrev pub invariant-loop-place : goal.invariant-loop-place

@@ -1,12 +1,6 @@
-use Rattle.std.proofs.Common.{◌≡◌, ◌++◌, ◌+◌, ◌∙◌, map, refl, ap, arith, append-nil, sym}
-use Rattle.std.specs.List.{flat_map, range_with_len}
-use Rattle.session_script.specs.Parts.{act_of}
-use Rattle.session_script.specs.Generated.{commit_of, lines_of_editor}
+use Rattle.session_script.proofs.Imports.{◌≡◌, ◌++◌, ◌+◌, ◌∙◌, map, refl, ap, arith, flat_map, range_with_len, act_of, commit_of, lines_of_editor}
 use Rattle.session_script.proofs.Lists.{put_more}
 use Rattle.session_script.proofs.tasks.put_editor.Goals as goal
-
-pub loop-commit-init : goal.loop-commit-init
-loop-commit-init c = sym (append-nil (map act_of c.args.tasks.now.items))
 
 pub loop-commit-preserved : goal.loop-commit-preserved
 loop-commit-preserved c =
@@ -15,6 +9,5 @@ loop-commit-preserved c =
 
 pub returns : goal.returns
 unfolding lines_of_editor
-returns c =
-    let all : c.loop-commit.commit ≡ 4 = omega arith in
+returns c = let all : c.loop-commit.commit ≡ 4 = omega arith in
     c.loop-commit.invariant ∙ ap (λ n. map act_of c.args.tasks.now.items ++ flat_map (commit_of c.args.editor) (range_with_len 0 n)) all

@@ -1,7 +1,4 @@
-use Rattle.std.proofs.Common.{◌≡◌, ◌++◌, map}
-use Rattle.std.specs.List.{flat_map, range_with_len}
-use Rattle.session_script.specs.Parts.{act_of}
-use Rattle.session_script.specs.Generated.{commit_of}
+use Rattle.session_script.proofs.Imports.{◌≡◌, ◌++◌, map, flat_map, range_with_len, act_of, commit_of}
 use Rattle.session_script.proofs.tasks.put_editor.Given as goal
 
 abbrev pub invariant-loop-commit : goal.invariant-loop-commit

@@ -1,12 +1,6 @@
-use Rattle.std.proofs.Common.{◌≡◌, ◌++◌, ◌+◌, ◌-◌, ◌∙◌, map, ap, arith, append-nil, sym}
-use Rattle.std.specs.List.{flat_map, range_with_len}
-use Rattle.session_script.specs.Parts.{act_of}
-use Rattle.session_script.specs.Generated.{numbers, lines_of_editor}
+use Rattle.session_script.proofs.Imports.{◌≡◌, ◌++◌, ◌+◌, ◌-◌, ◌∙◌, map, ap, arith, flat_map, range_with_len, act_of, numbers, lines_of_editor}
 use Rattle.session_script.proofs.Lists.{put_more}
 use Rattle.session_script.proofs.tasks.put_editors.Goals as goal
-
-pub loop-editor-init : goal.loop-editor-init
-loop-editor-init c = sym (append-nil (map act_of c.args.tasks.now.items))
 
 pub loop-editor-preserved : goal.loop-editor-preserved
 loop-editor-preserved c =
@@ -15,7 +9,5 @@ loop-editor-preserved c =
 
 pub returns : goal.returns
 unfolding numbers
-returns c =
-    let end = c.loop-editor.auto.editor-end (omega arith) in
-    let all : c.loop-editor.editor - 1 ≡ c.args.size = omega (arith, end) in
+returns c = let end = c.loop-editor.auto.editor-end (omega arith) in let all : c.loop-editor.editor - 1 ≡ c.args.size = omega (arith, end) in
     c.loop-editor.invariant ∙ ap (λ n. map act_of c.args.tasks.now.items ++ flat_map lines_of_editor (range_with_len 1 n)) all

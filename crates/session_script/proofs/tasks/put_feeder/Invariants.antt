@@ -1,8 +1,5 @@
-use Rattle.std.proofs.Common.{◌≡◌, ◌++◌, map}
-use Rattle.std.specs.Prelude.{replicate}
-use Rattle.session_script.specs.Parts.{act_of}
+use Rattle.session_script.proofs.Imports.{◌≡◌, ◌++◌, map, replicate, act_of, fates}
 use Rattle.session_script.specs.Scripts as acts
-use Rattle.session_script.specs.Generated.{fates}
 use Rattle.session_script.proofs.tasks.put_feeder.Given as goal
 
 abbrev pub invariant-loop-draw : goal.invariant-loop-draw

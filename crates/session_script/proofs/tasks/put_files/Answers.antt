@@ -1,12 +1,6 @@
-use Rattle.std.proofs.Common.{◌≡◌, ◌++◌, ◌+◌, ◌∙◌, map, ap, arith, append-nil, sym, refl}
-use Rattle.std.specs.List.{range_with_len}
-use Rattle.session_script.specs.Scripts.{Open}
-use Rattle.session_script.specs.Generated.{finale_of, finales_of}
+use Rattle.session_script.proofs.Imports.{◌≡◌, ◌++◌, ◌+◌, ◌∙◌, map, ap, arith, refl, range_with_len, Open, finale_of, finales_of}
 use Rattle.session_script.proofs.Lists.{push_more}
 use Rattle.session_script.proofs.tasks.put_files.Goals as goal
-
-pub loop-file-init : goal.loop-file-init
-loop-file-init c = sym (append-nil (map (Open 1) c.args.paths.now.items))
 
 pub loop-file-preserved : goal.loop-file-preserved
 unfolding finale_of
@@ -16,6 +10,5 @@ loop-file-preserved c =
 
 pub returns : goal.returns
 unfolding finales_of
-returns c =
-    let all : c.loop-file.file ≡ 32 = omega arith in
+returns c = let all : c.loop-file.file ≡ 32 = omega arith in
     c.loop-file.invariant ∙ ap (λ n. map (Open 1) c.args.paths.now.items ++ map (finale_of c.args.editor) (range_with_len 0 n)) all

@@ -1,7 +1,4 @@
-use Rattle.std.proofs.Common.{◌≡◌, ◌++◌, map}
-use Rattle.std.specs.List.{range_with_len}
-use Rattle.session_script.specs.Scripts.{Open}
-use Rattle.session_script.specs.Generated.{finale_of}
+use Rattle.session_script.proofs.Imports.{◌≡◌, ◌++◌, map, range_with_len, Open, finale_of}
 use Rattle.session_script.proofs.tasks.put_files.Given as goal
 
 abbrev pub invariant-loop-file : goal.invariant-loop-file

@@ -1,12 +1,6 @@
-use Rattle.std.proofs.Common.{◌≡◌, ◌++◌, ◌+◌, ◌∙◌, map, refl, ap, arith, append-nil, sym}
-use Rattle.std.specs.List.{range_with_len}
-use Rattle.session_script.specs.Parts.{act_of}
-use Rattle.session_script.specs.Generated.{open_of, lines_of_reader}
+use Rattle.session_script.proofs.Imports.{◌≡◌, ◌++◌, ◌+◌, ◌∙◌, map, refl, ap, arith, range_with_len, act_of, open_of, lines_of_reader}
 use Rattle.session_script.proofs.Lists.{push_more}
 use Rattle.session_script.proofs.tasks.put_reader.Goals as goal
-
-pub loop-turn-init : goal.loop-turn-init
-loop-turn-init c = sym (append-nil (map act_of c.args.tasks.now.items))
 
 pub loop-turn-preserved : goal.loop-turn-preserved
 loop-turn-preserved c =
@@ -15,6 +9,5 @@ loop-turn-preserved c =
 
 pub returns : goal.returns
 unfolding lines_of_reader
-returns c =
-    let all : c.loop-turn.turn ≡ 64 = omega arith in
+returns c = let all : c.loop-turn.turn ≡ 64 = omega arith in
     c.loop-turn.invariant ∙ ap (λ n. map act_of c.args.tasks.now.items ++ map (open_of c.args.size c.args.reader) (range_with_len 0 n)) all

@@ -1,6 +1,4 @@
-use Rattle.std.proofs.Common.{◌≡◌, ◌≤◌, length, option_map}
-use Rattle.session_script.specs.Values.{all_fates}
-use Rattle.session_script.specs.Steps.{words_left}
+use Rattle.session_script.proofs.Imports.{◌≡◌, ◌≤◌, length, option_map, all_fates, words_left}
 use Rattle.session_script.proofs.Runs.{counted}
 use Rattle.session_script.proofs.values.fate_count.Given as goal
 

@@ -1,6 +1,4 @@
-use Rattle.std.proofs.Common.{◌≡◌, Some, length}
-use Rattle.session_script.specs.Values.{all_fates, fates_onto}
-use Rattle.session_script.specs.Steps.{words_left}
+use Rattle.session_script.proofs.Imports.{◌≡◌, Some, length, all_fates, fates_onto, words_left}
 use Rattle.session_script.proofs.values.fates.Given as goal
 
 abbrev pub invariant-loop-word : goal.invariant-loop-word

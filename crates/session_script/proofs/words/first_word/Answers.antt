@@ -1,5 +1,4 @@
-use Rattle.std.proofs.Common.{rules}
-use Rattle.session_script.specs.Grammar.{is_space}
+use Rattle.session_script.proofs.Imports.{rules, is_space}
 use Rattle.path_tree.proofs.CallerLemmas.{cut_none, cut_at}
 use Rattle.session_script.proofs.words.first_word.Goals as goal
 

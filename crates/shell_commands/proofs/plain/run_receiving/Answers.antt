@@ -51,3 +51,42 @@ returns-in_default-clause-promises g c other =
     let d = c.in_default in
     declined (prefixes_of c.args.filters.items) _ _ _ refl refl c.args.command other
     d.not-Assemble d.not-OpenSections d.not-Open d.not-OpenId d.not-List d.not-Record d.not-Find d.not-Mounts d.not-Watch d.not-Inspect d.not-Extract d.not-Why
+
+pub returns-in-Assemble-clause-declines : goal.returns-in-Assemble-clause-declines
+returns-in-Assemble-clause-declines g c = rw c.in-Assemble.is (λ none. absurd (true≢false none))
+
+pub returns-in-OpenSections-clause-declines : goal.returns-in-OpenSections-clause-declines
+returns-in-OpenSections-clause-declines g c = rw c.in-OpenSections.is (λ none. absurd (true≢false none))
+
+pub returns-in-Open-clause-declines : goal.returns-in-Open-clause-declines
+returns-in-Open-clause-declines g c = rw c.in-Open.is (λ none. absurd (true≢false none))
+
+pub returns-in-OpenId-clause-declines : goal.returns-in-OpenId-clause-declines
+returns-in-OpenId-clause-declines g c = rw c.in-OpenId.is (λ none. absurd (true≢false none))
+
+pub returns-in-List-clause-declines : goal.returns-in-List-clause-declines
+returns-in-List-clause-declines g c = rw c.in-List.is (λ none. absurd (true≢false none))
+
+pub returns-in-Record-clause-declines : goal.returns-in-Record-clause-declines
+returns-in-Record-clause-declines g c = rw c.in-Record.is (λ none. absurd (true≢false none))
+
+pub returns-in-Find-clause-declines : goal.returns-in-Find-clause-declines
+returns-in-Find-clause-declines g c = rw c.in-Find.is (λ none. absurd (true≢false none))
+
+pub returns-in-Mounts-clause-declines : goal.returns-in-Mounts-clause-declines
+returns-in-Mounts-clause-declines g c = rw c.in-Mounts.is (λ none. absurd (true≢false none))
+
+pub returns-in-Watch-clause-declines : goal.returns-in-Watch-clause-declines
+returns-in-Watch-clause-declines g c = rw c.in-Watch.is (λ none. absurd (true≢false none))
+
+pub returns-in-Inspect-clause-declines : goal.returns-in-Inspect-clause-declines
+returns-in-Inspect-clause-declines g c = rw c.in-Inspect.is (λ none. absurd (true≢false none))
+
+pub returns-in-Extract-clause-declines : goal.returns-in-Extract-clause-declines
+returns-in-Extract-clause-declines g c = rw c.in-Extract.is (λ none. absurd (true≢false none))
+
+pub returns-in-Why-clause-declines : goal.returns-in-Why-clause-declines
+returns-in-Why-clause-declines g c = rw c.in-Why.is (λ none. absurd (true≢false none))
+
+pub returns-in_default-clause-declines : goal.returns-in_default-clause-declines
+returns-in_default-clause-declines g c other = (refl, refl, refl)

@@ -1,7 +1,7 @@
 use Rattle.std.proofs.Common.{sym, subst, refl, arith}
 use Rattle.generation.specs.Layouts.{GenerationState}
 use Rattle.carousel_world.specs.Publishing.{published_bytes}
-use Rattle.shell_commands.specs.Cycles.{IsOfFolder}
+use Rattle.shell_commands.specs.Inner.Cycles.{IsOfFolder}
 use Rattle.shell_commands.proofs.Committing.{cycle_like, ended_none, publishes_all, publishes_part}
 use Rattle.shell_commands.proofs.publish.publish.Goals as goal
 

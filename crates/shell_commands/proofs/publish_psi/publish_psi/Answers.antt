@@ -1,7 +1,7 @@
 use Rattle.std.proofs.Common.{sym, subst, refl, arith}
 use Rattle.generation.specs.Layouts.{GenerationState}
 use Rattle.shell_commands.specs.Announced.{published_psi}
-use Rattle.shell_commands.specs.Cycles.{IsOfFolder}
+use Rattle.shell_commands.specs.Inner.Cycles.{IsOfFolder}
 use Rattle.shell_commands.proofs.Announcing.{psi_all, psi_part}
 use Rattle.shell_commands.proofs.Committing.{cycle_like, ended_none}
 use Rattle.shell_commands.proofs.publish_psi.publish_psi.Goals as goal

@@ -1,7 +1,8 @@
 use Rattle.std.proofs.Common.{◌≡◌, ◌≤◌, List, length}
 use Rattle.oc_bytes.specs.Outcome.{Known}
 use Rattle.shell_streams.specs.Cuts.{Bytes}
-use Rattle.shell_streams.specs.Held.{onto_left, AreCut}
+use Rattle.shell_streams.specs.Packets.{onto_left}
+use Rattle.shell_streams.specs.Inner.Held.{AreCut}
 use Rattle.shell_streams.proofs.carrier.hear_sections.Given as goal
 
 abbrev pub invariant-loop-taken : goal.invariant-loop-taken

@@ -1,5 +1,6 @@
 use Rattle.std.proofs.Common.{◌≡◌, ◌++◌, ◌∷◌, [], take, length, Ok, ap, ◌∙◌, arith}
 use Rattle.std.proofs.lemmas.Result.{err_from_is_err_and}
+use Rattle.carousel_profile.specs.declared.TheConstants.{PACKET_LENGTH}
 use Rattle.shell_streams.specs.declared.input.InputFault.TheVariants as inputs
 use Rattle.shell_streams.proofs.Putting.{rose_last}
 use Rattle.shell_streams.proofs.Packeting.{taken_begin, taken_more, taken_stopped, stops_stopped}
@@ -30,9 +31,9 @@ loop-unread-preserved g c =
     let inv = c.loop-unread.invariant in
     let held = c.has_next.new.unread in
     let some = c.in_ok-has_next.ensures.next (ap Ok c.if-branch.true) in
-    let e : c.in-Some.packet.now ≡ take 188 held = c.in-Some.ensures.cases.same ∙ ap (take 188) c.held.ensures in
+    let e : c.in-Some.packet.now ≡ take PACKET_LENGTH held = c.in-Some.ensures.cases.same ∙ ap (take PACKET_LENGTH) c.held.ensures in
     record {
-      packets = inv.packets ++ take 188 held ∷ [];
+      packets = inv.packets ++ take PACKET_LENGTH held ∷ [];
       taken = taken_more inv.packets c.loop-unread.most _ _ c.loop-unread.unread _ held _ _ c.has_next.ensures.rest some.0 c.pass.ensures (omega (arith, some.1)) inv.taken;
       heard = rw e at (c.in_ok-hear.ensures _ inv.packets inv.heard);
       later = omega (arith, inv.later, c.has_next.ensures.later);

@@ -1,7 +1,6 @@
 use Rattle.std.proofs.Common.{◌≤◌, List}
 use Rattle.shell_streams.specs.Cuts.{Bytes}
-use Rattle.shell_streams.specs.Held.{onto_left}
-use Rattle.shell_streams.specs.Packets.{HasTaken}
+use Rattle.shell_streams.specs.Packets.{onto_left, HasTaken}
 use Rattle.shell_streams.proofs.every_packet.hear_packets_and_rest.Given as goal
 
 abbrev pub invariant-loop-unread : goal.invariant-loop-unread

@@ -1,5 +1,6 @@
 use Rattle.std.proofs.Common.{◌≡◌, ◌≤◌, ◌-◌, length}
-use Rattle.shell_streams.specs.Held.{onto_left}
+use Rattle.carousel_profile.specs.declared.TheConstants.{PACKET_LENGTH}
+use Rattle.shell_streams.specs.Packets.{onto_left}
 use Rattle.shell_streams.proofs.packets.has_packet.Given as goal
 
 abbrev pub invariant-loop-unread : goal.invariant-loop-unread
@@ -10,4 +11,4 @@ invariant-loop-unread g l = record {
 }
 
 abbrev pub decreases-loop-unread : goal.decreases-loop-unread
-decreases-loop-unread g l = 188 - length l.unread
+decreases-loop-unread g l = PACKET_LENGTH - length l.unread

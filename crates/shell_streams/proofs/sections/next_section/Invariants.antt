@@ -1,5 +1,5 @@
 use Rattle.std.proofs.Common.{◌≡◌, ◌≤◌, ◌-◌, length}
-use Rattle.shell_streams.specs.Held.{onto_left}
+use Rattle.shell_streams.specs.Packets.{onto_left}
 use Rattle.shell_streams.proofs.sections.next_section.Given as goal
 
 abbrev pub invariant-loop-unread : goal.invariant-loop-unread

@@ -1,6 +1,6 @@
 use Rattle.std.proofs.Common.{ap, sym, ◌∙◌}
 use Rattle.dsi_dii.specs.Controls.{view_dii}
-use Rattle.tuner_core.specs.TunerView.{view_turns}
+use Rattle.tuner_core.specs.Inner.TunerView.{view_turns}
 use Rattle.tuner_core.proofs.Changing.{changes}
 use Rattle.tuner_core.proofs.turns.take_dii.Goals as goal
 

@@ -1,5 +1,5 @@
 use Rattle.std.proofs.Common.{◌≡◌, ◌∙◌, ap, map}
-use Rattle.biop_object.specs.Labels.{first_at}
+use Rattle.biop_object.specs.Inner.Labels.{first_at}
 use Rattle.biop_object.proofs.Finding.{first_inside}
 use Rattle.biop_object.proofs.labelled.Labelled.first.Goals as goal
 

@@ -3,7 +3,7 @@ use Rattle.std.specs.Prelude.{IsOk}
 use Rattle.oc_bytes.specs.Numbers.{IsBytes}
 use Rattle.oc_bytes.specs.Cursor.{from_start}
 use Rattle.oc_bytes.specs.Grammar.{read}
-use Rattle.biop_object.specs.Objects.{framed}
+use Rattle.biop_object.specs.Inner.Objects.{framed}
 use Rattle.biop_object.proofs.ModuleLaws.{begins_framed, index_reads, index_only}
 use Rattle.biop_object.proofs.module.Module.read.Goals as goal
 

@@ -1,7 +1,8 @@
 use Rattle.std.proofs.Common.{[], ◌∷◌, take, get_or, refl, ap, sym, ◌∙◌, subst, arith}
 use Rattle.ts_packet.specs.declared.Fate.{Fate}
 use Rattle.ts_packet.specs.Fates.{arrival_of}
-use Rattle.carousel_world.specs.DownView.{DownlinkState, Hears}
+use Rattle.carousel_world.specs.DownView.{DownlinkState}
+use Rattle.carousel_world.specs.Inner.DownView.{Hears}
 use Rattle.carousel_world.specs.Fates.{received_under}
 use Rattle.carousel_world.proofs.Carrying.{one_heard, one_not_heard}
 use Rattle.carousel_world.proofs.downlink.Downlink.receive.Goals as goal

@@ -1,6 +1,6 @@
 use Rattle.std.proofs.Common.{◌≡◌, ◌+◌, take}
 use Rattle.carousel_world.specs.Fates.{received_under}
-use Rattle.carousel_world.specs.DownView.{Hears}
+use Rattle.carousel_world.specs.Inner.DownView.{Hears}
 use Rattle.carousel_world.proofs.downlink.Downlink.receive.Given as goal
 
 abbrev pub invariant-loop-packet : goal.invariant-loop-packet

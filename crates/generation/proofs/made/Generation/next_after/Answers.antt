@@ -1,9 +1,5 @@
 use Rattle.std.proofs.Common.{◌≡◌, ◌++◌, ◌∷◌, [], List, Ok, sym, subst, ap, ◌∙◌}
-use Rattle.std.specs.Prelude.{IfOk}
-use Rattle.path_tree.specs.Trees.{Tree}
-use Rattle.generation.specs.Layouts.{next_of}
-use Rattle.generation.specs.Kept.{StandsFor}
-use Rattle.generation.specs.Inner.Stays.{AreAsBefore}
+use Rattle.generation.proofs.Words.{IfOk, Tree, next_of, StandsFor, AreAsBefore}
 use Rattle.generation.proofs.made.Generation.next_after.Goals as goal
 
 pub renewed-requires-clause-flags : goal.renewed-requires-clause-flags

@@ -1,8 +1,5 @@
 use Rattle.std.proofs.Common.{◌≡◌, ◌++◌, ◌∷◌, [], List, subst}
-use Rattle.std.specs.Prelude.{IfOk}
-use Rattle.path_tree.specs.Trees.{Tree}
-use Rattle.generation.specs.Layouts.{next_of}
-use Rattle.generation.specs.Kept.{StandsFor}
+use Rattle.generation.proofs.Words.{IfOk, Tree, next_of, StandsFor}
 use Rattle.generation.proofs.made.Generation.next_checked.Goals as goal
 
 pub returns-clause-stands : goal.returns-clause-stands

@@ -1,14 +1,7 @@
 use Rattle.std.proofs.Common.{◌≡◌, ◌≤◌, ◌+◌, sym, subst, ap, ◌∙◌, map, length, arith, ◌++◌, ◌∷◌, []}
-use Rattle.std.specs.List.{All}
-use Rattle.std.proofs.lemmas.List.{length-map}
+use Rattle.generation.proofs.Words.{All, length-map, GREATEST_ID, modules_for, next_of, layout_of, lines_in, keys_of, placed_all, counts_after, generation_of, greatest, spots_of, AreLines, AreAsBefore, SameModules, IsRising, view_generation, view_listed, view_placed, AreReady, AreMarked, IsSpotIn}
 use Rattle.generation.proofs.Lists.{next_is, stands_next}
-use Rattle.module_groups.specs.declared.TheConstants.{GREATEST_ID}
-use Rattle.generation.specs.Layouts.{modules_for, next_of, layout_of, lines_in, keys_of, placed_all, counts_after, generation_of, greatest}
-use Rattle.generation.specs.Publication.{spots_of}
-use Rattle.cycle_planner.specs.Cycle.{AreLines}
-use Rattle.generation.specs.Inner.Stays.{AreAsBefore, SameModules}
-use Rattle.generation.specs.View.{AreReady, AreMarked, IsRising, IsSpotIn, view_generation, view_listed, view_placed}
-use Rattle.generation.proofs.Counting.{small_counts, counts_are}
+use Rattle.generation.proofs.Counting.{small_counts}
 use Rattle.generation.proofs.Grouping.{rising_of}
 use Rattle.generation.proofs.Sharing.{are_theirs}
 use Rattle.generation.proofs.made.Generation.renewed.Goals as goal
@@ -49,21 +42,18 @@ modules_of-requires-clause-staying c =
     (are_theirs c.self.inside.carousel (map (view_placed t) c.self.inside.objects.items) (map (view_placed u) c.in_ok-objects.objects.items) (map view_listed c.self.inside.modules.items) c.in_ok-staying.staying.items
     c.self.invariant.layout same)
 
-pub counts_next-requires-clause-few : goal.counts_next-requires-clause-few
-counts_next-requires-clause-few c =
-    let ready = c.in_ok-objects.ensures.ready c.self.inside.carousel in
-    let layout = c.in_ok-modules.ensures.layout ∙ ap (λ os. layout_of c.self.inside.carousel (map (view_placed c.args.tree) os)) c.deref-4.ensures.value in
-    omega (arith, ready.modules, ap length layout, length-map c.in_ok-modules.modules.items view_listed, ap length c.deref-7.ensures.value)
+-- the layout of the modules, which rises, and their counts
+pub counts_next-requires-clause-rising : goal.counts_next-requires-clause-rising
+counts_next-requires-clause-rising c =
+    let listed = ap (map view_listed) c.deref-7.ensures.value ∙ (c.in_ok-modules.ensures.layout ∙ ap (λ os. layout_of c.self.inside.carousel (map (view_placed c.args.tree) os)) c.deref-4.ensures.value) in
+    subst IsRising (sym listed) (rising_of (layout_of c.self.inside.carousel (map (view_placed c.args.tree) c.in_ok-objects.objects.items)) (c.in_ok-objects.ensures.lines c.self.inside.carousel))
 
 pub invariant_of-result : goal.invariant_of-result
 invariant_of-result c =
     let ready = c.in_ok-objects.ensures.ready c.self.inside.carousel in
     let layout = c.in_ok-modules.ensures.layout ∙ ap (λ os. layout_of c.self.inside.carousel (map (view_placed c.args.tree) os)) c.deref-4.ensures.value in
-    let rising = rising_of (layout_of c.self.inside.carousel (map (view_placed c.args.tree) c.in_ok-objects.objects.items)) (c.in_ok-objects.ensures.lines c.self.inside.carousel) in
-    let listed = ap (map view_listed) c.deref-7.ensures.value ∙ (c.in_ok-modules.ensures.layout ∙ ap (λ os. layout_of c.self.inside.carousel (map (view_placed c.args.tree) os)) c.deref-4.ensures.value) in
     let counted : c.in_ok-counts.counts.items ≡ counts_after (map view_listed c.deref-5.result.now) (map view_listed c.deref-7.result.now) c.deref-8.result.now =
-    counts_are (map view_listed c.deref-5.result.now) c.deref-7.result.now c.deref-8.result.now c.in_ok-counts.counts.items (subst IsRising (sym listed) rising)
-    (subst (AreMarked (map view_listed c.deref-5.result.now)) (sym c.deref-7.ensures.value) c.in_ok-modules.ensures.stays) c.in_ok-counts.ensures.many c.in_ok-counts.ensures.each in
+    c.in_ok-counts.ensures (map view_listed c.deref-5.result.now) (subst (AreMarked (map view_listed c.deref-5.result.now)) (sym c.deref-7.ensures.value) c.in_ok-modules.ensures.stays) in
     record {
       tree = ready.tree;
       layout = layout;
@@ -81,11 +71,8 @@ invariant_of-result c =
 pub returns-clause-exact : goal.returns-clause-exact
 returns-clause-exact c =
     let t = c.args.tree in
-    let rising = rising_of (layout_of c.self.inside.carousel (map (view_placed c.args.tree) c.in_ok-objects.objects.items)) (c.in_ok-objects.ensures.lines c.self.inside.carousel) in
-    let listed = ap (map view_listed) c.deref-7.ensures.value ∙ (c.in_ok-modules.ensures.layout ∙ ap (λ os. layout_of c.self.inside.carousel (map (view_placed c.args.tree) os)) c.deref-4.ensures.value) in
     let counted : c.in_ok-counts.counts.items ≡ counts_after (map view_listed c.deref-5.result.now) (map view_listed c.deref-7.result.now) c.deref-8.result.now =
-    counts_are (map view_listed c.deref-5.result.now) c.deref-7.result.now c.deref-8.result.now c.in_ok-counts.counts.items (subst IsRising (sym listed) rising)
-    (subst (AreMarked (map view_listed c.deref-5.result.now)) (sym c.deref-7.ensures.value) c.in_ok-modules.ensures.stays) c.in_ok-counts.ensures.many c.in_ok-counts.ensures.each in
+    c.in_ok-counts.ensures (map view_listed c.deref-5.result.now) (subst (AreMarked (map view_listed c.deref-5.result.now)) (sym c.deref-7.ensures.value) c.in_ok-modules.ensures.stays) in
     next_is (view_generation c.self.inside) t (map (view_placed t) c.in_ok-objects.objects.items) (map view_listed c.in_ok-modules.modules.items) c.in_ok-counts.counts.items
     (c.in_ok-objects.ensures.objects ∙ ap (λ os. placed_all (spots_of t) (keys_of (map (view_placed c.self.inside.tree) os) (spots_of t)) (modules_for (map (view_placed c.self.inside.tree) os) t)) c.deref.ensures.value)
     (c.in_ok-modules.ensures.layout ∙ ap (λ os. layout_of c.self.inside.carousel (map (view_placed t) os)) c.deref-4.ensures.value)

@@ -1,28 +1,20 @@
-use Rattle.generation.specs.View.{view_generation, view_listed, IsRising}
-use Rattle.generation.specs.Layouts.{items_of}
-use Rattle.cycle_planner.specs.Cycle.{AreLines}
+use Rattle.generation.proofs.Words.{view_generation, view_listed, Dsi, Dii, Block}
 use Rattle.generation.proofs.Grouping.{dii_listed, rising_of}
-use Rattle.std.proofs.Common.{sym, subst, map}
-use Rattle.std.specs.List.{Contains}
+use Rattle.std.proofs.Common.{map}
 use Rattle.generation.proofs.Writing.{section_arm, dii_arm, listed_arm}
-use Rattle.cycle_planner.specs.declared.Item.TheVariants.{Dsi, Dii, Block}
 use Rattle.generation.proofs.made.Generation.section.Goals as goal
 
 pub returns-in-Dsi-clause-exact : goal.returns-in-Dsi-clause-exact
 returns-in-Dsi-clause-exact c = section_arm c.dsi_section.result (view_generation c.self.inside) c.args.self.now c.args.item Dsi c.self.view_is c.in-Dsi.is c.dsi_section.ensures.spells
 
 pub dii_section-requires-clause-group : goal.dii_section-requires-clause-group
-dii_section-requires-clause-group c =
-    let is = dii_listed c.args.self.now c.in-Dii.group (subst (Contains (items_of c.args.self.now)) c.in-Dii.is c.requires) in
-    (is.above, is.within)
+dii_section-requires-clause-group c = let is = dii_listed c.args.self.now c.in-Dii.group (rw c.in-Dii.is at c.requires) in (is.above, is.within)
 
 pub dii_section-requires-clause-rising : goal.dii_section-requires-clause-rising
-dii_section-requires-clause-rising c =
-    subst (λ ms. IsRising (map view_listed ms)) (sym c.deref.ensures.value) (rising_of (map view_listed c.self.inside.modules.items) (subst AreLines c.self.invariant.lines c.self.invariant.cycle))
+dii_section-requires-clause-rising c = rw c.deref.ensures.value (rising_of (map view_listed c.self.inside.modules.items) (rw c.self.invariant.lines at c.self.invariant.cycle))
 
 pub block_of_module-requires-clause-rising : goal.block_of_module-requires-clause-rising
-block_of_module-requires-clause-rising c =
-    subst (λ ms. IsRising (map view_listed ms)) (sym c.deref-in-Block.ensures.value) (rising_of (map view_listed c.self.inside.modules.items) (subst AreLines c.self.invariant.lines c.self.invariant.cycle))
+block_of_module-requires-clause-rising c = rw c.deref-in-Block.ensures.value (rising_of (map view_listed c.self.inside.modules.items) (rw c.self.invariant.lines at c.self.invariant.cycle))
 
 pub returns-in-Dii-clause-exact : goal.returns-in-Dii-clause-exact
 returns-in-Dii-clause-exact c = section_arm c.dii_section.result (view_generation c.self.inside) c.args.self.now c.args.item (Dii c.in-Dii.group) c.self.view_is c.in-Dii.is

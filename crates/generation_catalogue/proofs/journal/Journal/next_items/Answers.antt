@@ -1,7 +1,8 @@
 use Rattle.std.proofs.Common.{ℕ, ◌+◌, ◌-◌, min, ap, sym, ◌∙◌, subst}
 use Rattle.std.specs.Arc.{arc_value}
 use Rattle.generation_catalogue.specs.History.{count_drawn, cursor_of}
-use Rattle.generation_catalogue.specs.Kept.{StandsIn, view_journal}
+use Rattle.generation_catalogue.specs.Kept.{view_journal}
+use Rattle.generation_catalogue.specs.Inner.Kept.{StandsIn}
 use Rattle.generation_catalogue.proofs.Drawing.{drawn_items, few_left, same_lines, stand_here}
 use Rattle.generation_catalogue.proofs.journal.Journal.next_items.Goals as goal
 

@@ -1,5 +1,5 @@
 use Rattle.std.proofs.Common.{◌≡◌, ℕ, ◌-◌, [], length, sym, ap, ◌∙◌, arith, subst, length-append}
-use Rattle.history_lock.specs.History.{newcomer}
+use Rattle.history_lock.specs.Inner.History.{newcomer}
 use Rattle.history_lock.specs.Passes.{opening_of, AreFresh}
 use Rattle.history_lock.proofs.Steps.{split_keeps}
 use Rattle.history_lock.proofs.Dealing.{one_dealt, last_dealt, kept_newcomer}

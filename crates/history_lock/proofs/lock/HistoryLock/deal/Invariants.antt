@@ -1,6 +1,6 @@
 use Rattle.std.proofs.Common.{◌≡◌, ◌≤◌, ◌-◌, [], length}
 use Rattle.std.specs.Vec.{vec_capacity}
-use Rattle.history_lock.specs.History.{newcomer}
+use Rattle.history_lock.specs.Inner.History.{newcomer}
 use Rattle.history_lock.specs.Passes.{AreFresh, opening_of}
 use Rattle.history_lock.proofs.lock.HistoryLock.deal.Given as goal
 

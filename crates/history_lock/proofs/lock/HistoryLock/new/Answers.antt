@@ -1,7 +1,7 @@
 use Rattle.std.proofs.Common.{◌≡◌, sym, ap, ◌∙◌, Some, List, [], ◌∷◌, ◌++◌, subst}
 use Rattle.std.proofs.Common.{Option}
 use Rattle.atomic_table.specs.Table.{opening}
-use Rattle.history_lock.specs.History.{newcomer, Chronicle}
+use Rattle.history_lock.specs.Inner.History.{newcomer, Chronicle}
 use Rattle.history_lock.proofs.Steps.{start}
 use Rattle.history_lock.proofs.lock.HistoryLock.new.Goals as goal
 

@@ -4,7 +4,8 @@ use Rattle.std.proofs.lemmas.Result.{on_ok_weaker}
 use Rattle.ddb_block.specs.Blocks.{parts_view}
 use Rattle.module_cache.specs.CacheView.{view_cache}
 use Rattle.module_cache.specs.Held.{tuned_after, with_first}
-use Rattle.module_cache.specs.Joining.{taken_of, IsHeld, has_line, offered, outline_held, AreOnce, AreApart}
+use Rattle.module_cache.specs.Joining.{taken_of, has_line, offered, outline_held, AreOnce, AreApart}
+use Rattle.module_cache.specs.Inner.Joining.{IsHeld}
 use Rattle.module_cache.proofs.Handling.{held_offered, with_held}
 use Rattle.module_cache.proofs.Calling.{offered_stands, offer_kept, offer_looks_back, either_way}
 use Rattle.module_cache.proofs.cache.Cache.offer_parts.Goals as goal

@@ -2,7 +2,8 @@ use Rattle.std.proofs.Common.{◌≡◌, ap, sym, subst, ◌∙◌}
 use Rattle.std.proofs.Math.ListN.{set}
 use Rattle.dsi_dii.specs.Controls.{view_dii}
 use Rattle.module_cache.specs.CacheView.{view_cache}
-use Rattle.module_cache.specs.Joining.{CacheState, IsHeld, turned}
+use Rattle.module_cache.specs.Joining.{CacheState, turned}
+use Rattle.module_cache.specs.Inner.Joining.{IsHeld}
 use Rattle.module_cache.proofs.Handling.{held_turned, turn_made}
 use Rattle.module_cache.proofs.Keeping.{within_once}
 use Rattle.module_cache.proofs.Calling.{turned_stands}

@@ -2,10 +2,10 @@ use Rattle.std.proofs.Common.{◌≡◌, ◌∙◌, ap, subst, sym, map, length,
 use Rattle.std.proofs.lemmas.List.{with_items_is}
 use Rattle.std.specs.List.{fold}
 use Rattle.module_cache.specs.Inner.Keeping.{lines_keeping}
-use Rattle.module_cache.specs.Limits.{no_id_twice}
+use Rattle.module_cache.specs.Joining.{no_id_twice}
 use Rattle.module_cache.proofs.Keeping.{said_keeping}
 use Rattle.module_cache.specs.declared.stored.Line.{Line}
-use Rattle.module_cache.specs.Reaches.{AreWithin}
+use Rattle.module_cache.specs.Inner.Reaches.{AreWithin}
 use Rattle.dsi_dii.specs.declared.ModuleLine.{ModuleLine}
 use Rattle.module_cache.proofs.tuned.Tuned.keep.Goals as goal
 

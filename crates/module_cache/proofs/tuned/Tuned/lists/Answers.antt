@@ -1,6 +1,6 @@
 use Rattle.std.proofs.Common.{◌∙◌, eqb, ap, subst, sym, map}
 use Rattle.std.specs.List.{list_any}
-use Rattle.module_cache.specs.Reaches.{AreWithin}
+use Rattle.module_cache.specs.Inner.Reaches.{AreWithin}
 use Rattle.module_cache.proofs.Reaching.{outside}
 use Rattle.module_cache.proofs.tuned.Tuned.lists.Goals as goal
 

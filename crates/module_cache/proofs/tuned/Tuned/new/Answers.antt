@@ -1,7 +1,7 @@
 use Rattle.std.proofs.Common.{◌∙◌, ◌<◌, ap, subst, sym, map}
 use Rattle.dsi_dii.specs.Controls.{view_dii}
-use Rattle.module_cache.specs.Limits.{no_id_twice}
-use Rattle.module_cache.specs.Reaches.{AreWithin}
+use Rattle.module_cache.specs.Joining.{no_id_twice}
+use Rattle.module_cache.specs.Inner.Reaches.{AreWithin}
 use Rattle.module_cache.proofs.Keeping.{fresh_says, version_below, within_once}
 use Rattle.module_cache.proofs.tuned.Tuned.new.Goals as goal
 

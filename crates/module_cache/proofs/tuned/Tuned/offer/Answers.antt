@@ -5,11 +5,11 @@ use Rattle.std.proofs.lemmas.Result.{IfOk-weaker}
 use Rattle.ddb_block.specs.Blocks.{parts_view}
 use Rattle.module_cache.proofs.Places.{of_download}
 use Rattle.module_cache.specs.Held.{taken_tuned, lines_after}
-use Rattle.module_cache.specs.Limits.{no_id_twice}
+use Rattle.module_cache.specs.Joining.{no_id_twice}
 use Rattle.module_cache.proofs.Calling.{either_way}
 use Rattle.module_cache.proofs.Keeping.{said_after}
 use Rattle.module_cache.specs.declared.stored.Line.{Line}
-use Rattle.module_cache.specs.Reaches.{AreWithin}
+use Rattle.module_cache.specs.Inner.Reaches.{AreWithin}
 use Rattle.module_cache.proofs.tuned.Tuned.offer.Goals as goal
 
 pub returns-clause-answer : goal.returns-clause-answer

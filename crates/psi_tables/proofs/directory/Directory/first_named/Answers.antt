@@ -1,6 +1,7 @@
 use Rattle.std.proofs.Common.{◌≡◌, ℕ, None, sym, subst, arith}
 use Rattle.psi_tables.specs.Finding.{first_named, lines_of_sections}
-use Rattle.psi_tables.specs.Stands.{view_directory, named_by, section_kept}
+use Rattle.psi_tables.specs.Stands.{view_directory, section_kept}
+use Rattle.psi_tables.specs.Inner.Stands.{named_by}
 use Rattle.psi_tables.proofs.Searching.{nothing_more, first_here}
 use Rattle.psi_tables.proofs.directory.Directory.first_named.Goals as goal
 

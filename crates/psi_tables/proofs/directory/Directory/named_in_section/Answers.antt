@@ -5,7 +5,8 @@ use Rattle.psi_tables.specs.declared.tables.PatLine.{PatLine}
 use Rattle.psi_tables.specs.declared.followed.Followed.{Followed}
 use Rattle.psi_tables.specs.Pats.{PatFields, view_pat}
 use Rattle.psi_tables.specs.Finding.{first_named, lines_in_section}
-use Rattle.psi_tables.specs.Stands.{view_followed, named_by, section_kept}
+use Rattle.psi_tables.specs.Stands.{view_followed, section_kept}
+use Rattle.psi_tables.specs.Inner.Stands.{named_by}
 use Rattle.psi_tables.proofs.Searching.{kept_found}
 use Rattle.psi_tables.proofs.directory.Directory.named_in_section.Goals as goal
 

@@ -4,7 +4,7 @@ use Rattle.std.specs.declared.vec.Vec.{Vec}
 use Rattle.std.specs.declared.alloc.Global.{Global}
 use Rattle.section_stream.specs.Kept.{view_bytes}
 use Rattle.psi_tables.specs.Stands.{FinderState, view_directory}
-use Rattle.psi_tables.specs.Steps.{TablesHeard}
+use Rattle.psi_tables.specs.Inner.Steps.{TablesHeard}
 use Rattle.psi_tables.proofs.Hearing.{heard_more, cuts_more, other_pid, own_pid}
 use Rattle.psi_tables.proofs.Keeping.{Takes}
 use Rattle.psi_tables.proofs.Stepping.{tables_unheard}

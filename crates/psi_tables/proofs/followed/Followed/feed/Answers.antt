@@ -4,7 +4,7 @@ use Rattle.section_stream.specs.Kept.{view_bytes}
 use Rattle.section_stream.specs.Rules.{DemuxState}
 use Rattle.psi_tables.specs.Receiving.{HeardOn}
 use Rattle.psi_tables.specs.Stands.{view_followed}
-use Rattle.psi_tables.specs.Steps.{after_pmts}
+use Rattle.psi_tables.specs.Inner.Steps.{after_pmts}
 use Rattle.psi_tables.proofs.Programs.{hears_more, hears_still}
 use Rattle.psi_tables.proofs.Hearing.{heard_more, cuts_more, other_pid, own_pid}
 use Rattle.psi_tables.proofs.followed.Followed.feed.Goals as goal

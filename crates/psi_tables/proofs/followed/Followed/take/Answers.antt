@@ -3,7 +3,7 @@ use Rattle.std.specs.Result.{OnOk}
 use Rattle.psi_tables.specs.declared.followed.Program.{Program}
 use Rattle.psi_tables.specs.Pmts.{PmtFields}
 use Rattle.psi_tables.specs.Finding.{if_read, pmt_in}
-use Rattle.psi_tables.specs.Steps.{after_pmt, put}
+use Rattle.psi_tables.specs.Inner.Steps.{after_pmt, put}
 use Rattle.psi_tables.proofs.followed.Followed.take.Goals as goal
 
 pub returns-clause-programs : goal.returns-clause-programs

@@ -1,6 +1,6 @@
 use Rattle.std.proofs.Common.{◌≡◌, map, drop}
 use Rattle.section_stream.specs.Kept.{view_bytes}
-use Rattle.psi_tables.specs.Steps.{after_pmts}
+use Rattle.psi_tables.specs.Inner.Steps.{after_pmts}
 use Rattle.psi_tables.proofs.followed.Followed.take_all.Given as goal
 
 abbrev pub invariant-loop-section : goal.invariant-loop-section

@@ -1,5 +1,6 @@
 use Rattle.std.proofs.Common.{◌++◌, ◌∷◌, [], sym, subst}
-use Rattle.receiver_commands.specs.Gathering.{asked_of, HasBlocks}
+use Rattle.receiver_commands.specs.Gathering.{asked_of}
+use Rattle.receiver_commands.specs.Inner.Gathering.{HasBlocks}
 use Rattle.receiver_commands.specs.declared.assemble.Wanted.{Wanted}
 use Rattle.receiver_commands.proofs.assemble.GathererListener.hear.Goals as goal
 

@@ -3,7 +3,7 @@ use Rattle.std.proofs.lemmas.Result.{err_from_is_err_and}
 use Rattle.std.proofs.lemmas.List.{take_all}
 use Rattle.section_stream.specs.Kept.{view_bytes}
 use Rattle.shell_streams.proofs.CallerLemmas.{puts_nothing, puts_then, puts_stop, puts_as}
-use Rattle.receiver_commands.specs.Watching.{lines_behind}
+use Rattle.receiver_commands.specs.Inner.Watching.{lines_behind}
 use Rattle.receiver_commands.proofs.Telling.{heard_next, lines_next, lines_split}
 use Rattle.receiver_commands.proofs.watch.Watcher.hear_all.Goals as goal
 

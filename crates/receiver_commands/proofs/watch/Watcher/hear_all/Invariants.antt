@@ -3,7 +3,7 @@ use Rattle.path_tree.specs.Paths.{PathNames}
 use Rattle.section_stream.specs.Kept.{view_bytes}
 use Rattle.shell_streams.specs.Cuts.{Bytes}
 use Rattle.shell_streams.specs.Sending.{HasPut}
-use Rattle.receiver_commands.specs.Watching.{StandsFor, lines_behind}
+use Rattle.receiver_commands.specs.Inner.Watching.{StandsFor, lines_behind}
 use Rattle.receiver_commands.proofs.watch.Watcher.hear_all.Given as goal
 
 abbrev pub invariant-loop-candidate : goal.invariant-loop-candidate

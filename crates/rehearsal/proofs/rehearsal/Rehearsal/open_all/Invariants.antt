@@ -1,8 +1,4 @@
-use Rattle.std.proofs.Common.{ℕ, List, ◌++◌, length, drop, map}
-use Rattle.session_script.specs.Scripts.{Fields, LineFields}
-use Rattle.session_script.specs.Parts.{finale_line}
-use Rattle.shell_streams.specs.Sending.{OutputState}
-use Rattle.rehearsal.specs.Inner.Steps.{HasRun}
+use Rattle.rehearsal.proofs.Words.{ℕ, List, ◌++◌, length, drop, map, Fields, LineFields, finale_line, OutputState, HasRun}
 use Rattle.rehearsal.proofs.rehearsal.Rehearsal.open_all.Given as goal
 
 abbrev pub invariant-loop-last : goal.invariant-loop-last

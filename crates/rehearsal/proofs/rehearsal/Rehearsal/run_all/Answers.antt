@@ -1,11 +1,5 @@
-use Rattle.std.proofs.Common.{rules}
-use Rattle.std.proofs.lemmas.Iterator.Consumers.{YieldsList-turn, YieldsList-end}
-use Rattle.std.proofs.lemmas.Iterator.Adapters.{YieldsList-from_vec}
-use Rattle.std.proofs.lemmas.Result.{err_from_is_err_and}
+use Rattle.rehearsal.proofs.Words.{ap, length, rules, err_from_is_err_and, act_of, task_line, IsInRange, line_at, none_left, at_place, item_comes, items_came}
 use Rattle.session_script.specs.declared.parts.TaskLine.{TaskLine}
-use Rattle.session_script.specs.Parts.{act_of, task_line}
-use Rattle.session_script.specs.Ranges.{IsInRange}
-use Rattle.session_script.proofs.CallerLemmas.{line_at, none_left, at_place}
 use Rattle.rehearsal.proofs.Running.{has_run_as, runs_line, rehearses_part}
 use Rattle.rehearsal.proofs.rehearsal.Rehearsal.run_all.Goals as goal
 
@@ -13,30 +7,23 @@ pub loop-line-init : goal.loop-line-init
 loop-line-init g c = λ ws script stage left first h. h
 
 pub run-requires : goal.run-requires
-run-requires g c =
-    let turn = YieldsList-turn (YieldsList-from_vec {s = c.into_iter-line-iterator.result} c.args.tasks.items (search rules) (search rules))
-    c.loop-line.yielded c.loop-line.line-iterator c.loop-line.yielded_by c.next.result c.next.new.self c.in-Some.line c.in-Some.is c.next.ensures.steps in
+run-requires g c = let turn = item_comes c.into_iter-line-iterator.result c.args.tasks.items (search rules) (search rules) c.loop-line.yielded c.loop-line.line-iterator c.loop-line.yielded_by c.next.new.self c.in-Some.is c.next.ensures.steps in
     at_place (λ (line : TaskLine). IsInRange (act_of line.task)) c.args.tasks.items _ c.in-Some.line c.requires turn.0 turn.1
 
 pub loop-line-preserved : goal.loop-line-preserved
 loop-line-preserved g c =
-    let turn = YieldsList-turn (YieldsList-from_vec {s = c.into_iter-line-iterator.result} c.args.tasks.items (search rules) (search rules))
-    c.loop-line.yielded c.loop-line.line-iterator c.loop-line.yielded_by c.next.result c.next.new.self c.in-Some.line c.in-Some.is c.next.ensures.steps in
+    let turn = item_comes c.into_iter-line-iterator.result c.args.tasks.items (search rules) (search rules) c.loop-line.yielded c.loop-line.line-iterator c.loop-line.yielded_by c.next.new.self c.in-Some.is c.next.ensures.steps in
     λ ws script stage left first all.
     let h = has_run_as (line_at (task_line stage) c.args.tasks.items c.loop-line.yielded left c.in-Some.line turn.0 turn.1) (c.loop-line.invariant ws script stage left first all) in
     runs_line (task_line stage c.in-Some.line) _ h (c.in_ok-run.ensures.runs ws h.happened h.pending h.stands) (c.in_ok-run.ensures.stands ws h.happened h.pending h.stands)
 
 pub returns-in_err-run : goal.returns-in_err-run
 returns-in_err-run g c =
-    let turn = YieldsList-turn (YieldsList-from_vec {s = c.into_iter-line-iterator.result} c.args.tasks.items (search rules) (search rules))
-    c.loop-line.yielded c.loop-line.line-iterator c.loop-line.yielded_by c.next.result c.next.new.self c.in-Some.line c.in-Some.is c.next.ensures.steps in
-    let p = err_from_is_err_and c.from_residual.result c.from_residual.ensures.1 in
-    λ ws script stage left first all.
+    let turn = item_comes c.into_iter-line-iterator.result c.args.tasks.items (search rules) (search rules) c.loop-line.yielded c.loop-line.line-iterator c.loop-line.yielded_by c.next.new.self c.in-Some.is c.next.ensures.steps in
+    let p = err_from_is_err_and c.from_residual.result c.from_residual.ensures.1 in λ ws script stage left first all.
     let h = has_run_as (line_at (task_line stage) c.args.tasks.items c.loop-line.yielded left c.in-Some.line turn.0 turn.1) (c.loop-line.invariant ws script stage left first all) in
     rw (p.1, p.2) (rehearses_part script (task_line stage c.in-Some.line) _ h (c.in_err-run.ensures.runs ws h.happened h.pending h.stands))
 
 pub returns : goal.returns
-returns g c =
-    let end = YieldsList-end (YieldsList-from_vec {s = c.into_iter-line-iterator.result} c.args.tasks.items (search rules) (search rules))
-    c.loop-line.yielded c.loop-line.line-iterator c.loop-line.yielded_by c.next.result c.next.new.self c.in-None.is c.next.ensures.steps in
-    λ ws script stage left first all. has_run_as (none_left (task_line stage) c.args.tasks.items c.loop-line.yielded left end.1) (c.loop-line.invariant ws script stage left first all)
+returns g c = let end = items_came c.into_iter-line-iterator.result c.args.tasks.items (search rules) (search rules) c.loop-line.yielded c.loop-line.line-iterator c.loop-line.yielded_by c.next.new.self c.in-None.is c.next.ensures.steps in
+    λ ws script stage left first all. has_run_as (none_left (task_line stage) c.args.tasks.items c.loop-line.yielded left (ap length end)) (c.loop-line.invariant ws script stage left first all)

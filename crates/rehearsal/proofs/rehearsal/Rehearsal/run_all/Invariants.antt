@@ -1,9 +1,5 @@
-use Rattle.std.proofs.Common.{ℕ, List, ◌++◌, length, drop, map}
+use Rattle.rehearsal.proofs.Words.{ℕ, List, ◌++◌, length, drop, map, Fields, LineFields, task_line, OutputState, HasRun}
 use Rattle.session_script.specs.declared.script.Stage.{Stage}
-use Rattle.session_script.specs.Scripts.{Fields, LineFields}
-use Rattle.session_script.specs.Parts.{task_line}
-use Rattle.shell_streams.specs.Sending.{OutputState}
-use Rattle.rehearsal.specs.Inner.Steps.{HasRun}
 use Rattle.rehearsal.proofs.rehearsal.Rehearsal.run_all.Given as goal
 
 abbrev pub invariant-loop-line : goal.invariant-loop-line

@@ -1,12 +1,8 @@
-use Rattle.std.proofs.Common.{◌++◌, map}
-use Rattle.std.proofs.lemmas.Result.{err_from_is_err_and}
-use Rattle.session_script.specs.declared.script.Stage.TheVariants.{Before, During}
-use Rattle.session_script.specs.Parts.{task_line}
+use Rattle.rehearsal.proofs.Words.{◌++◌, map, err_from_is_err_and, Before, During, task_line}
 use Rattle.rehearsal.proofs.rehearsal.Rehearsal.run_tasks.Goals as goal
 
 pub returns-in_err-run_all : goal.returns-in_err-run_all
-returns-in_err-run_all g c =
-    let p = err_from_is_err_and c.from_residual.result c.from_residual.ensures.1 in
+returns-in_err-run_all g c = let p = err_from_is_err_and c.from_residual.result c.from_residual.ensures.1 in
     λ ws script left first h. rw (p.1, p.2) (c.in_err-run_all.ensures ws script Before (map (task_line During) c.args.during.items ++ left) first h)
 
 pub returns : goal.returns

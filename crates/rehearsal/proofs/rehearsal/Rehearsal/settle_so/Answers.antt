@@ -1,13 +1,9 @@
-use Rattle.std.proofs.Common.{◌++◌, ap}
-use Rattle.std.proofs.lemmas.Result.{err_from_is_err_and}
-use Rattle.session_script.specs.Parts.{settle_lines}
+use Rattle.rehearsal.proofs.Words.{◌++◌, ap, err_from_is_err_and, settle_lines}
 use Rattle.rehearsal.proofs.Running.{has_run_as, runs_line, rehearses_part}
 use Rattle.rehearsal.proofs.rehearsal.Rehearsal.settle_so.Goals as goal
 
 pub returns-in_err-settle-in-Some : goal.returns-in_err-settle-in-Some
-returns-in_err-settle-in-Some g c =
-    let p = err_from_is_err_and c.from_residual.result c.from_residual.ensures.1 in
-    λ ws script left first all.
+returns-in_err-settle-in-Some g c = let p = err_from_is_err_and c.from_residual.result c.from_residual.ensures.1 in λ ws script left first all.
     let h = has_run_as (ap (λ line. settle_lines line ++ left) c.in-Some.is) all in
     rw (p.1, p.2) (rehearses_part script _ left h (c.in_err-settle-in-Some.ensures.runs ws h.happened h.pending h.stands))
 

@@ -1,6 +1,6 @@
 use Rattle.std.proofs.Common.{ap, arith, length, length-append}
 use Rattle.section_stream.proofs.Handing.{kept_bytes, grown_view}
-use Rattle.section_stream.specs.Steps.{bytes_of}
+use Rattle.section_stream.specs.Inner.Steps.{bytes_of}
 use Rattle.section_stream.proofs.open_section.OpenSection.grow.Goals as goal
 
 pub append-requires : goal.append-requires

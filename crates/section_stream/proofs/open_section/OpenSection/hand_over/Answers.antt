@@ -1,7 +1,7 @@
 use Rattle.std.proofs.Common.{◌≡◌, ◌-◌, ◌++◌, ◌∙◌, ap, take, arith, length, length-append, length-take}
 use Rattle.section_stream.specs.Cuts.{Bytes}
 use Rattle.section_stream.proofs.Handing.{kept_bytes, front_of_two, inserted, put_at}
-use Rattle.section_stream.specs.Steps.{bytes_of}
+use Rattle.section_stream.specs.Inner.Steps.{bytes_of}
 use Rattle.section_stream.proofs.open_section.OpenSection.hand_over.Goals as goal
 
 -- what is open is the buffer, and it lacks no more than the packet has

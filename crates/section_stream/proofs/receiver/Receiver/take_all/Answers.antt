@@ -1,4 +1,5 @@
 use Rattle.std.proofs.Common.{sym, ◌∙◌}
+use Rattle.carousel_profile.specs.declared.TheConstants.{PACKET_LENGTH}
 use Rattle.section_stream.proofs.Bytes.{chunk_run, chunk_rest, no_chunk, rest_none}
 use Rattle.section_stream.proofs.Completing.{on_err, chunk_gives, chunk_later}
 use Rattle.section_stream.proofs.Opening.{rest_is}
@@ -8,10 +9,10 @@ pub loop-packet-preserved : goal.loop-packet-preserved
 loop-packet-preserved c =
     record {
       run = λ t after r. c.loop-packet.invariant.run t after
-          (chunk_run c.loop-packet.self c.step.new.self t c.loop-packet.rest.now c.in-Some.packet.now _ _ _ after c.in-Some.ensures.cases.enough c.in-Some.ensures.cases.same (rest_is c.loop-packet.rest.now 188) c.in_ok-step.ensures.ok r);
-      rest = chunk_rest c.loop-packet.rest.now _ c.in-Some.ensures.cases.enough (rest_is c.loop-packet.rest.now 188) ∙ c.loop-packet.invariant.rest;
+          (chunk_run c.loop-packet.self c.step.new.self t c.loop-packet.rest.now c.in-Some.packet.now _ _ _ after c.in-Some.ensures.cases.enough c.in-Some.ensures.cases.same (rest_is c.loop-packet.rest.now PACKET_LENGTH) c.in_ok-step.ensures.ok r);
+      rest = chunk_rest c.loop-packet.rest.now _ c.in-Some.ensures.cases.enough (rest_is c.loop-packet.rest.now PACKET_LENGTH) ∙ c.loop-packet.invariant.rest;
       asked = λ later. c.loop-packet.invariant.asked
-          (chunk_later c.loop-packet.self c.step.new.self c.loop-packet.rest.now c.in-Some.packet.now _ _ _ c.in-Some.ensures.cases.enough c.in-Some.ensures.cases.same (rest_is c.loop-packet.rest.now 188) c.in_ok-step.ensures.ok later);
+          (chunk_later c.loop-packet.self c.step.new.self c.loop-packet.rest.now c.in-Some.packet.now _ _ _ c.in-Some.ensures.cases.enough c.in-Some.ensures.cases.same (rest_is c.loop-packet.rest.now PACKET_LENGTH) c.in_ok-step.ensures.ok later);
     }
 
 pub returns-clause-run : goal.returns-clause-run

@@ -2,7 +2,8 @@ use Rattle.std.proofs.Common.{◌≡◌, ◌<◌, List, length, map}
 use Rattle.section_stream.specs.Cuts.{Bytes}
 use Rattle.section_stream.specs.Kept.{view_bytes}
 use Rattle.section_stream.specs.Pieces.{packets_of, rest_of}
-use Rattle.section_stream.specs.Rules.{Receiving, HasRun, outputs}
+use Rattle.section_stream.specs.Rules.{Receiving}
+use Rattle.section_stream.specs.Inner.Rules.{HasRun, outputs}
 use Rattle.section_stream.proofs.receiver.Receiver.take_all.Given as goal
 
 -- whatever the packets that are left lead to, all of them lead to

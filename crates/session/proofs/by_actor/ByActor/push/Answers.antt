@@ -1,4 +1,4 @@
-use Rattle.session.specs.Inner.ByActor.{lists_of}
+use Rattle.session.proofs.Words.{lists_of}
 use Rattle.session.proofs.Taking.{pushed}
 use Rattle.session.proofs.by_actor.ByActor.push.Goals as goal
 

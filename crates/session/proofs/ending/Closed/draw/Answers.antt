@@ -1,10 +1,4 @@
-use Rattle.std.proofs.Common.{Result, refl, subst}
-use Rattle.generation_catalogue.specs.Calls.{IsDrawn}
-use Rattle.generation_catalogue.specs.View.{state}
-use Rattle.generation_catalogue.specs.declared.entry.Batch.{Batch}
-use Rattle.generation_catalogue.specs.declared.entry.DrawFault.{DrawFault}
-use Rattle.shot_board.specs.Showers.{shown_by}
-use Rattle.session.specs.Inner.Ending.{view_closed}
+use Rattle.session.proofs.Words.{Result, refl, subst, IsDrawn, state, Batch, DrawFault, shown_by, view_closed}
 use Rattle.session.proofs.Closing.{one_more}
 use Rattle.session.proofs.ending.Closed.draw.Goals as goal
 

@@ -1,7 +1,4 @@
-use Rattle.std.proofs.Common.{arith}
-use Rattle.shot_board.specs.Showers.{shown_by}
-use Rattle.generation_catalogue.specs.View.{state}
-use Rattle.session.specs.Inner.Ending.{view_closed}
+use Rattle.session.proofs.Words.{arith, shown_by, state, view_closed}
 use Rattle.session.proofs.Closing.{none_counted, none_drawn, none_gathered, one_has_room, two_counted, two_drawn, two_gathered}
 use Rattle.session.proofs.ending.Closed.settle.Goals as goal
 
@@ -18,11 +15,8 @@ pub draw-requires-clause-room : goal.draw-requires-clause-room
 draw-requires-clause-room g c κs within = let r = one_has_room c.args.settles c.if-not-settles.false _ _ c.requires.room in omega (arith, r)
 
 pub draw-requires-2-clause-room : goal.draw-requires-2-clause-room
-draw-requires-2-clause-room g c κs within =
-    let r = one_has_room c.args.settles c.if-not-settles.false _ _ c.requires.room in
-    let count = c.in_ok-draw.ensures.count in
-    let most = c.draw.ensures.board.1 in
-    omega (arith, r, count, most)
+draw-requires-2-clause-room g c κs within = let r = one_has_room c.args.settles c.if-not-settles.false _ _ c.requires.room in
+    let count = c.in_ok-draw.ensures.count in let most = c.draw.ensures.board.1 in omega (arith, r, count, most)
 
 pub returns-clause-count : goal.returns-clause-count
 returns-clause-count g c = two_counted c.args.settles c.if-not-settles.false _ _ _ c.in_ok-draw.ensures.count c.in_ok-draw-2.ensures.count

@@ -1,8 +1,4 @@
-use Rattle.std.proofs.Common.{◌++◌, List}
-use Rattle.carousel_world.specs.Events.{Step}
-use Rattle.rehearsal.specs.Lines.{Pending}
-use Rattle.rehearsal.specs.Happening.{Holds}
-use Rattle.session.specs.Inner.Plans.{HasSplit, events_at, waiting_below}
+use Rattle.session.proofs.Words.{◌++◌, List, Step, Pending, Holds, HasSplit, events_at, waiting_below}
 use Rattle.session.proofs.plan.Work.add_all.Given as goal
 
 abbrev pub invariant-loop-line : goal.invariant-loop-line

@@ -1,16 +1,9 @@
-use Rattle.std.proofs.Common.{◌≡◌, ℕ, ◌==◌, [], ◌∷◌, ◌++◌, refl, subst}
-use Rattle.std.specs.Prelude.{if◌then◌else◌}
-use Rattle.std.proofs.lemmas.Result.{on_ok_weaker}
-use Rattle.session.specs.declared.by_actor.ByActor.{ByActor}
-use Rattle.session.specs.declared.editor.CommitLine.{CommitLine}
-use Rattle.session.specs.Inner.ByActor.{lists_of}
+use Rattle.session.proofs.Words.{◌≡◌, ℕ, ◌==◌, [], ◌∷◌, ◌++◌, refl, subst, if◌then◌else◌, on_ok_weaker, ByActor, CommitLine, lists_of}
 use Rattle.session.proofs.Planning.{split_commit, split_draw, split_open}
 use Rattle.session.proofs.plan.Work.give.Goals as goal
 
 pub returns-in-Commit : goal.returns-in-Commit
-returns-in-Commit c =
-    let line : CommitLine = record { lines = c.saturating_add-lines.result; edits = c.in-Commit.edits } in
-    let same = c.take_lines.ensures in
+returns-in-Commit c = let line : CommitLine = record { lines = c.saturating_add-lines.result; edits = c.in-Commit.edits } in let same = c.take_lines.ensures in
     on_ok_weaker c.push.result
     (λ f done h. split_commit c.args.self.now _ done h c.args.what line c.in-Commit.editor c.in-Commit.edits c.in-Commit.is refl
     (subst (λ (b : ByActor CommitLine). (n : ℕ) → lists_of c.push.new.self n ≡ (if n == c.in-Commit.editor then lists_of b n ++ line ∷ [] else lists_of b n)) same.0 f) same.1 same.2)

@@ -1,7 +1,4 @@
-use Rattle.std.proofs.Common.{map, sym, ap, subst}
-use Rattle.std.proofs.lemmas.List.Elements.{All-nil}
-use Rattle.std.specs.List.{All}
-use Rattle.session.specs.Seats.{IsDrawLine, draw_of, edits_of}
+use Rattle.session.proofs.Words.{map, sym, ap, subst, All-nil, All, IsDrawLine, draw_of, edits_of}
 use Rattle.session.proofs.plan.Work.new.Goals as goal
 
 pub returns : goal.returns

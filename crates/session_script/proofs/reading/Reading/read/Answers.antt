@@ -1,7 +1,4 @@
-use Rattle.std.proofs.Common.{◌∙◌, ap, sym}
-use Rattle.session_script.specs.Grammar.{line_by}
-use Rattle.session_script.specs.Memory.{is_kept}
-use Rattle.session_script.specs.Steps.{view_said}
+use Rattle.session_script.proofs.Imports.{◌∙◌, ap, sym, line_by, is_kept, view_said}
 use Rattle.session_script.proofs.Asking.{kept_asks}
 use Rattle.session_script.proofs.Standing.{grows}
 use Rattle.session_script.proofs.Suiting.{starts_suit}

@@ -1,4 +1,4 @@
-use Rattle.std.proofs.Common.{refl, ap, ◌∙◌}
+use Rattle.session_script.proofs.Imports.{refl, ap, ◌∙◌}
 use Rattle.session_script.proofs.Keeping.{adds_start}
 use Rattle.session_script.proofs.reading.Reading.start.Goals as goal
 

@@ -1,5 +1,6 @@
 use Rattle.std.proofs.Common.{◌≡◌, take, Ok, ap, ◌∙◌, arith}
 use Rattle.std.proofs.lemmas.Result.{err_from_is_err_and}
+use Rattle.carousel_profile.specs.declared.TheConstants.{PACKET_LENGTH}
 use Rattle.shell_streams.specs.declared.input.InputFault.TheVariants as faults
 use Rattle.shell_streams.proofs.Packeting.{reader_taken, reader_next, reader_ended, reader_stopped, taken_stopped}
 use Rattle.shell_streams.proofs.packets.PacketReader.next.Goals as goal
@@ -21,7 +22,7 @@ returns-in_err-sections-clause-stopped g c =
 
 pub returns-clause-next : goal.returns-clause-next
 returns-clause-next g c = λ pid start cs h.
-    let e : c.in-Some.packet.now ≡ take 188 c.has_next.new.unread = c.in-Some.ensures.cases.same ∙ ap (take 188) c.held-2.ensures in
+    let e : c.in-Some.packet.now ≡ take PACKET_LENGTH c.has_next.new.unread = c.in-Some.ensures.cases.same ∙ ap (take PACKET_LENGTH) c.held-2.ensures in
     let some = c.in_ok-has_next.ensures.next (ap Ok c.if-not-branch.false) in
     reader_next pid c.args.self.now _ c.has_next.new.unread start _ _ _ cs c.has_next.ensures.rest some.0 c.pass.ensures
     (omega arith)

@@ -1,0 +1,2 @@
+-- What private functions and invariants are stated in; no public contract names it.
+pub mod Walk
