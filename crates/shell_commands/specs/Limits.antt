@@ -1,6 +1,6 @@
--- The limits of the commands and of what stands below them, each as the number that it is. A crate
--- names its own limits by constants, and the other definitions take them from there.
-use Rattle.std.specs.Prelude.{◌≡◌}
+-- The limits of the commands and of what stands below them, each as the number that it is, and the kinds of objects as
+-- their bytes. A crate names its own by constants, and the other definitions take them from there.
+use Rattle.std.specs.Prelude.{◌≡◌, [], ◌∷◌}
 use Rattle.carousel_profile.specs.declared.TheConstants.{BLOCK_SIZE, CAROUSEL_PID, MOST_PID}
 use Rattle.path_tree.specs.declared.text.TheConstants.{MOST_NAMES}
 use Rattle.path_tree.specs.declared.tree.TheConstants.{MOST_CONTENT}
@@ -8,6 +8,7 @@ use Rattle.module_groups.specs.declared.TheConstants.{GROUP_SIZE, MOST_GROUPS, G
 use Rattle.ddb_block.specs.declared.TheConstants.{MOST_BLOCK_SIZE, MOST_BLOCKS}
 use Rattle.dsi_dii.specs.declared.TheConstants.{MOST_MODULES, MOST_TOTAL_SIZE, LAST_GENERATION}
 use Rattle.biop_object.specs.declared.written.TheConstants.{MOST_FOLDER_SIZE}
+use Rattle.biop_object.specs.declared.reading.TheConstants.{FILE, DIRECTORY, GATEWAY}
 use Rattle.block_assembler.specs.declared.TheConstants.{MOST_MODULE_SIZE}
 use Rattle.tuner_core.specs.declared.turns.TheConstants.{MOST_HELD}
 use Rattle.cycle_planner.specs.declared.weigh.TheConstants.{GREATEST_WEIGHT}
@@ -62,6 +63,10 @@ pub record Limits : Type 0 where
   pub content : MOST_CONTENT ≡ 16777216
   pub objects : MOST_OBJECTS ≡ 8192
   pub folder_size : MOST_FOLDER_SIZE ≡ 1048576
+  -- the kinds of objects in a module: fil, dir and srg, each with a zero byte behind it
+  pub file_kind : FILE ≡ 102 ∷ 105 ∷ 108 ∷ 0 ∷ []
+  pub folder_kind : DIRECTORY ≡ 100 ∷ 105 ∷ 114 ∷ 0 ∷ []
+  pub gateway_kind : GATEWAY ≡ 115 ∷ 114 ∷ 103 ∷ 0 ∷ []
   pub last_generation : LAST_GENERATION ≡ 16383
   pub put_bytes : MOST_PUT_BYTES ≡ 536870912
   pub draws : MOST_DRAWS ≡ 16777216

@@ -27,7 +27,7 @@ pub fn receptions()
     one_mount_decides();
 }
 
-/// The limits of the commands, and of what stands below them.
+/// The limits of the commands and of what stands below them as numbers, and the kinds of objects as bytes.
 pub fn limits_are_numbers()
     ensures { Limits }
 {
