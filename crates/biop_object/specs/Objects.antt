@@ -58,7 +58,8 @@ binding =
     unkept (sized two) λ info.
     gives (record { name = drop_zero id; kind = kind; target = target })
 
--- the body of a file, of a folder and of any other object, at a place of its module
+-- the body at a place of its module, by whether the kind is that of a file, and that of a folder; of any other object it
+-- isn't read
 abbrev pub shape_by : (file_like folder_like : Bool) → ℕ → Grammar Shape
 shape_by true folder_like place =
     unkept (sized four) λ content.
@@ -104,7 +105,7 @@ object place =
 abbrev pub ReadsObject : (at : ℕ) → List ℕ → Object → Type 0
 ReadsObject at = ReadsBy (object at)
 
--- the same front as bytes
+-- a message's front as bytes: BIOP, version 1.0, byte order 0, message type 0
 abbrev pub message_front : List ℕ
 message_front = 66 ∷ 73 ∷ 79 ∷ 80 ∷ 1 ∷ 0 ∷ 0 ∷ 0 ∷ []
 

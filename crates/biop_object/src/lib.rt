@@ -22,7 +22,7 @@ mod reading;
 mod written;
 
 pub use laws::spellings_read_back;
-pub use limits::limits_are_numbers;
+pub use limits::{kinds_are_bytes, limits_are_numbers};
 pub use module::{Binding, Found, Module, Span};
 pub use reading::{DIRECTORY, FILE, GATEWAY};
 pub use written::{

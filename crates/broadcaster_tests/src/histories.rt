@@ -1,6 +1,6 @@
 ghost use Rattle.std.specs.Prelude.{◌≡◌, IfOk};
 ghost use Rattle.std.specs.Arc.{arc_value};
-ghost use Rattle.history_merge.specs.Laws.{NeverFall};
+ghost use Rattle.history_merge.specs.Merged.{NeverFall};
 
 use carousel_world::{Event, Fate, Reply};
 use dsi_dii::ModuleLine;

@@ -1,4 +1,5 @@
-//! The numbers that this broadcaster writes, and those of the formats that stand in several layers: each stands here once.
+//! The numbers that this broadcaster chooses, and those of the formats that several layers name: each stands here once. What one
+//! message alone has stands with its crate.
 //!
 //! They are of the profile of an object carousel in ETSI TR 101 202 over ISO/IEC 13818-1 and 13818-6. Where the standards leave a number
 //! open, it is this project's own choice.
@@ -28,7 +29,7 @@ pub const PMT_PID: u16 = 32;
 /// The PID on which a carousel is sent where no other one is asked for. This project's own choice.
 pub const CAROUSEL_PID: u16 = 256;
 
-/// The greatest PID that can carry sections: the one after it is that of null packets.
+/// The greatest PID that can carry sections: the one after it is that of null packets (ISO/IEC 13818-1, table 2-3).
 pub const MOST_PID: u16 = 8_190;
 
 /// The PID of null packets, which as the PID of a program's clock says that there is none (ISO/IEC 13818-1, table 2-3 and clause

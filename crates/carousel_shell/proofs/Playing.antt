@@ -10,7 +10,7 @@ use Rattle.carousel_world.specs.Events.{Step, view}
 use Rattle.carousel_world.specs.declared.event.Event.{Event}
 use Rattle.carousel_world.specs.declared.event.Reply.{Reply}
 use Rattle.rehearsal.specs.Reports.{report}
-use Rattle.history_merge.specs.Merges.{known_view}
+use Rattle.history_merge.specs.Merging.{known_view}
 use Rattle.session.specs.Sessions.{IsSession}
 use Rattle.shell_streams.specs.Cuts.{Bytes}
 use Rattle.shell_streams.specs.Packets.{Stopped, is_longer}

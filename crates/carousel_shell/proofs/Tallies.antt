@@ -9,7 +9,7 @@ use Rattle.std.proofs.lemmas.List.Sums.{sum_by_push, count_by-le-length, length-
 use Rattle.carousel_world.specs.Events.{Step, view}
 use Rattle.carousel_world.specs.declared.event.Event.{Event}
 use Rattle.carousel_world.specs.declared.event.Reply.{Reply}
-use Rattle.history_merge.specs.Merges.{known_view}
+use Rattle.history_merge.specs.Merging.{known_view}
 use Rattle.history_merge.specs.Merged.{is_open_by}
 use Rattle.session.specs.Sessions.{accepted_in, is_accepted}
 use Rattle.carousel_shell.specs.Big.{is_first, length_in, finale_lengths, counts_line, big_line}

@@ -3,7 +3,7 @@ ghost use Rattle.std.specs.Prelude.{◌≡◌, ◌+◌, ◌<◌, ◌^◌, ◌++�
 ghost use Rattle.std.specs.List.{sum};
 ghost use Rattle.oc_bytes.specs.Outcome.{Spells, MakesList};
 ghost use Rattle.carousel_world.specs.Events.{view};
-ghost use Rattle.history_merge.specs.Merges.{known_view};
+ghost use Rattle.history_merge.specs.Merging.{known_view};
 ghost use Rattle.history_merge.specs.Merged.{is_open_by};
 ghost use Rattle.session.specs.Sessions.{accepted_in, is_accepted as is_accepted_by_name};
 ghost use Rattle.carousel_shell.specs.Big as specs;

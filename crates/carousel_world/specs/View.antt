@@ -24,7 +24,7 @@ abbrev pub IsLeft : Step → Kept → Kept → Type 0
 IsLeft (Draw asked fates) old new = new.down.spent ≡ true
 IsLeft _ old new = new ≡ old
 
--- What holds of a call on what is kept of a world, whatever world that stands for.
+-- ---- what holds of a call on what is kept of a world, whatever world that stands for
 
 -- it left what stands for the world after the event
 abbrev pub Follows : Kept → Kept → Step → Type 0

@@ -1,16 +1,16 @@
 -- What lies right in a folder by the paths lies right in it by the numbers.
-use Rattle.std.proofs.Common.{◌≡◌, ℕ, zero, suc, ◌+◌, ◌<◌, ◌==◌, Bool, true, false, cond, List, [], ◌∷◌, ◌++◌, length, map, get_or, Option, Some, None, refl, sym, ap, ◌∙◌, subst, arith, append_assoc}
+use Rattle.std.proofs.Common.{◌≡◌, ℕ, zero, suc, ◌+◌, ◌<◌, ◌==◌, Bool, true, false, cond, List, [], ◌∷◌, ◌++◌, length, get_or, Option, Some, None, refl, sym, ap, ◌∙◌, arith}
 use Rattle.std.specs.Prelude.{if◌then◌else◌}
 use Rattle.std.specs.List.{All, AllByRecursion}
 use Rattle.std.specs.declared.cmp.Ordering.TheVariants.{Less, Equal}
 use Rattle.std.proofs.lemmas.Bool.{eqb-true, eqb-false}
-use Rattle.std.proofs.lemmas.List.Elements.{All-cons, All-head, All-tail, All-append, All-map, recursion_from_All}
+use Rattle.std.proofs.lemmas.List.Elements.{recursion_from_All}
 use Rattle.path_tree.specs.Paths.{Bytes, PathNames, path_cmp, same_name}
-use Rattle.path_tree.specs.Nestings.{Nesting, Empty, FileThen, FolderThen, nested}
 use Rattle.path_tree.specs.Trees.{Tree, IsTree}
 use Rattle.path_tree.proofs.CallerLemmas.{same_name-is, same_name-refl, path_cmp-refl}
-use Rattle.generation.specs.Publication.{Spot, gateway_spot, below, count_in, spots_in, spots_of, is_child, AreRising}
-use Rattle.generation.proofs.CallerLemmas.{number_at, all_numbered, rising_all}
+use Rattle.generation.specs.Publication.{Spot, gateway_spot, spots_of, is_child, AreRising}
+use Rattle.generation.specs.Standing.{AreWhatStands, IsIn}
+use Rattle.generation.proofs.CallerLemmas.{objects_stand}
 use Rattle.files_alone.specs.Objects.{child_name}
 use Rattle.files_alone.proofs.Mapped.{same_default}
 
@@ -36,66 +36,6 @@ child_other (m ∷ ms) (k ∷ ks) n other = go (same_name m k) refl (child_other
   go : (b : Bool) → same_name m k ≡ b → ((ms ≡ ks → ⊥) → child_name ms (ks ++ n ∷ []) ≡ None) → cond b (child_name ms (ks ++ n ∷ [])) None ≡ None
   go true e rest = rest (λ same. other (λ i. same_name-is m k e i ∷ same i))
   go false e rest = refl
-
--- ---- each object but the gateway stands in a folder, by number and by path
-
--- of a folder's number and path it is told that they belong together
-record StandsIn (F : ℕ → PathNames → Type 0) (front : PathNames) (s : Spot) : Type 0 where
-  pub folder : ℕ
-  pub above : PathNames
-  pub parent : s.parent ≡ Some folder
-  pub is : F folder above
-  pub path : front ++ s.path ≡ above ++ s.name ∷ []
-
-abbrev Told : (ℕ → PathNames → Type 0) → PathNames → Spot → Type 0
-Told F front s = s.content ≡ None → F s.number (front ++ s.path)
-
-front_all : (P : Spot → Type 0) (xs ys : List Spot) → All P (xs ++ ys) → All P xs
-front_all P [] ys h = λ i d lt. absurd (omega (arith, lt))
-front_all P (x ∷ xs) ys h = All-cons P x xs (All-head P x (xs ++ ys) h) (front_all P xs ys (All-tail P x (xs ++ ys) h))
-
-back_all : (P : Spot → Type 0) (xs ys : List Spot) → All P (xs ++ ys) → All P ys
-back_all P [] ys h = h
-back_all P (x ∷ xs) ys h = back_all P xs ys (All-tail P x (xs ++ ys) h)
-
-module _ (F : ℕ → PathNames → Type 0) where
-  told_inside : (front : PathNames) (n : Bytes) (ss : List Spot) → All (Told F front) (map (below n) ss) → All (Told F (front ++ n ∷ [])) ss
-  told_inside front n [] h = λ i d lt. absurd (omega (arith, lt))
-  told_inside front n (s ∷ ss) h =
-      All-cons (Told F (front ++ n ∷ [])) s ss
-      (λ none. subst (F s.number) (sym (append_assoc front (n ∷ []) s.path)) (All-head (Told F front) (below n s) (map (below n) ss) h none))
-      (told_inside front n ss (All-tail (Told F front) (below n s) (map (below n) ss) h))
-
-  stand_in : (front : PathNames) (parent next : ℕ) (g : Nesting) → F parent front → All (Told F front) (spots_in parent next g) → All (StandsIn F front) (spots_in parent next g)
-  stand_in front parent next Empty here told = λ i d lt. absurd (omega (arith, lt))
-  stand_in front parent next (FileThen n b rest) here told =
-      All-cons (StandsIn F front) _ (spots_in parent (suc next) rest) (record { folder = parent; above = front; parent = refl; is = here; path = refl })
-      (stand_in front parent (suc next) rest here (All-tail (Told F front) _ (spots_in parent (suc next) rest) told))
-  stand_in front parent next (FolderThen n made inside rest) here told =
-      let down = spots_in next (suc next) inside in
-      let more = spots_in parent (suc (next + count_in inside)) rest in
-      let later = All-tail (Told F front) _ (map (below n) down ++ more) told in
-      let own : F next (front ++ n ∷ []) = All-head (Told F front) _ (map (below n) down ++ more) told refl in
-      let inner = stand_in (front ++ n ∷ []) next (suc next) inside own (told_inside front n down (front_all (Told F front) (map (below n) down) more later)) in
-      All-cons (StandsIn F front) _ (map (below n) down ++ more) (record { folder = parent; above = front; parent = refl; is = here; path = refl })
-      (All-append (StandsIn F front) (map (below n) down) more
-      (All-map (StandsIn F front) (below n) down (λ i d lt.
-      let w = inner i d lt in
-      record { folder = w.folder; above = w.above; parent = w.parent; is = w.is; path = sym (append_assoc front (n ∷ []) (get_or down i d).path) ∙ w.path }))
-      (stand_in front parent (suc (next + count_in inside)) rest here (back_all (Told F front) (map (below n) down) more later)))
-
--- the object of this number has this path
-abbrev HasPath : List Spot → ℕ → PathNames → Type 0
-HasPath all k p = (k < length all) × ((get_or all k gateway_spot).path ≡ p)
-
-all_stand : (t : Tree) → All (StandsIn (HasPath (spots_of t)) []) (spots_in 0 1 (nested t))
-all_stand t = stand_in (HasPath (spots_of t)) [] 0 1 (nested t) (omega arith, refl) told where
-  told : All (Told (HasPath (spots_of t)) []) (spots_in 0 1 (nested t))
-  told i d lt none =
-      let rest : List Spot = spots_in 0 1 (nested t) in
-      let number : (get_or rest i d).number ≡ suc i = number_at 0 (spots_of t) (all_numbered t) (suc i) d (omega (arith, lt)) ∙ omega arith in
-      subst (λ (k : ℕ). HasPath (spots_of t) k (get_or rest i d).path) (sym number)
-      (omega (arith, lt), ap (λ (s : Spot). s.path) (same_default rest i gateway_spot d lt))
 
 -- ---- no two objects have one path
 
@@ -136,17 +76,27 @@ agrees f s k p parent path there back = go (k == f.number) refl where
       ∙ (child_other f.path p s.name (λ same. eqb-false k f.number e (back same)) ∙ ap answer (sym (child_by f.number k s parent ∙ e)))
 
 children : (t : Tree) → IsTree t → All (λ f. All (Agree f) (spots_of t)) (spots_of t)
-children t tree i d lt zero e le = child_nil (get_or (spots_of t) i d).path
-children t tree i d lt (suc j) e le =
-    let all : List Spot = spots_of t in
-    let w = all_stand t j e (omega (arith, le)) in
-    let number : (get_or all i d).number ≡ i = number_at 0 all (all_numbered t) i d lt ∙ omega arith in
-    let there : w.folder ≡ (get_or all i d).number → w.above ≡ (get_or all i d).path = λ same.
-    let place : w.folder ≡ i = same ∙ number in
-    sym w.is.1 ∙ (ap (λ (k : ℕ). (get_or all k gateway_spot).path) place ∙ ap (λ (s : Spot). s.path) (same_default all i gateway_spot d lt)) in
-    let back : (get_or all i d).path ≡ w.above → w.folder ≡ (get_or all i d).number = λ same.
-    distinct all (rising_all t tree) w.folder i gateway_spot d w.is.0 lt (w.is.1 ∙ sym same) ∙ sym number in
-    agrees (get_or all i d) (get_or all (suc j) e) w.folder w.above w.parent w.path there back
+children t tree i d lt j e le = go s.parent refl (stand.numbered.parents j e le) where
+  all : List Spot
+  all = spots_of t
+
+  stand : AreWhatStands t all
+  stand = objects_stand t tree
+
+  f : Spot
+  f = get_or all i d
+
+  s : Spot
+  s = get_or all j e
+
+  number : f.number ≡ i
+  number = stand.numbered.numbers i d lt
+
+  go : (o : Option ℕ) → s.parent ≡ o → IsIn all s o → Agree f s
+  go None parent root = rw (parent, root) (child_nil f.path)
+  go (Some k) parent is = agrees f s k (get_or all k gateway_spot).path parent is.1
+      (λ same. ap (λ (n : ℕ). (get_or all n gateway_spot).path) (same ∙ number) ∙ ap (λ (r : Spot). r.path) (same_default all i gateway_spot d lt))
+      (λ same. distinct all stand.rising k i gateway_spot d is.0 lt (sym same) ∙ sym number)
 
 -- the same, by recursion
 pub all_agree : (t : Tree) → IsTree t → AllByRecursion (λ f. AllByRecursion (Agree f) (spots_of t)) (spots_of t)

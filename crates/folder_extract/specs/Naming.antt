@@ -1,4 +1,4 @@
--- Which names of a carousel can be those of files, and where a path stands in a folder of the outside. It is this project's own rule.
+-- Which names of a carousel can be those of files. It is this project's own rule.
 use Rattle.std.specs.Prelude.{◌-◌, Bool, not, ◌&&◌, ◌||◌, length, take, codes}
 use Rattle.std.specs.List.{list_all}
 use Rattle.std.specs.Str.{is_utf8}

@@ -1,7 +1,6 @@
 -- The modules carry the tree.
-use Rattle.std.proofs.Common.{◌≡◌, ℕ, zero, suc, ◌+◌, ◌<◌, ◌≤◌, Bool, true, false, ◌==◌, List, [], ◌∷◌, ◌++◌, length, map, take, drop, Option, Some, None, cond, refl, sym, ◌∙◌, ap, subst, arith, append_assoc, length-append, ◌⊎◌, inl, inr, max}
-use Rattle.generation.proofs.Words.{All, list_any, range_with_len, filter, filter_map, flat_map, find, fold, option_map, All-cons, All-map, All-filter, or_parts, or_right, eq-eqb, cond_both, cases_eq, cases_Bool, ne_eqb, drop-drop, drop_at, take_at, Bytes, same_name, Tree, IsTree, module_in, Thing, AFile, AFolder, thing_at, thing_in, thing_of, first_of_key, Object, binding_of, file_spelling, index_of, Spelled, spelled_bytes, spelled_object, spelled_objects, IsSpellable, SpellingsReadBack, GREATEST_ID, spots_of, gateway_spot, key_bytes, location_of, folder_kind_of, object_bytes, is_in, module_bytes, module_if_used, layout_of, greatest, Placed, entries_of}
-use Rattle.generation.proofs.Numbering.{option_cases}
+use Rattle.std.proofs.Common.{◌≡◌, ℕ, zero, suc, ◌+◌, ◌<◌, ◌≤◌, true, ◌==◌, List, [], ◌∷◌, ◌++◌, length, map, take, drop, Option, Some, None, refl, sym, ◌∙◌, ap, subst, arith, append_assoc, length-append, ◌⊎◌, inl, inr, max, ◌≢◌}
+use Rattle.generation.proofs.Words.{All, list_any, range_with_len, filter, filter_map, flat_map, find, fold, option_map, All-cons, All-map, All-filter, or_right, eq-eqb, cond_both, cases_eq, cases_Bool, ne_eqb, drop-drop, drop_at, take_at, Bytes, same_name, Tree, IsTree, module_in, Thing, AFile, AFolder, thing_at, thing_in, thing_of, first_of_key, binding_of, file_spelling, index_of, Spelled, spelled_bytes, spelled_object, spelled_objects, IsSpellable, SpellingsReadBack, GREATEST_ID, spots_of, gateway_spot, key_bytes, location_of, folder_kind_of, object_bytes, is_in, module_bytes, module_if_used, layout_of, greatest, Placed, entries_of, All-tail, All-head, option_cases, all_unmap}
 use Rattle.generation.proofs.Placing.{fold_least}
 use Rattle.biop_object.specs.Spelled.{AFile as SpelledFile, AFolder as SpelledFolder}
 use Rattle.generation.proofs.Keyed.{Distinct, same_keys}
@@ -25,7 +24,7 @@ spelled_is c objects o = elim (option_cases o.spot.content) [ inl h ↦ rw h.1 r
 
 spelled_all : (c : ℕ) (objects os : List Placed) → flat_map spelled_bytes (map (spelled c objects) os) ≡ flat_map (object_bytes c objects) os
 spelled_all c objects [] = refl
-spelled_all c objects (o ∷ os) = ap (λ b. b ++ flat_map spelled_bytes (map (spelled c objects) os)) (spelled_is c objects o) ∙ ap (λ r. object_bytes c objects o ++ r) (spelled_all c objects os)
+spelled_all c objects (o ∷ os) = λ i. spelled_is c objects o i ++ spelled_all c objects os i
 
 -- a file's content stands 44 bytes after the front of its object
 file_content : (before rest : List ℕ) (k : ℕ) (b : Bytes) → take (length b) (drop (length before + 44) (before ++ (file_spelling (key_bytes k) b ++ rest))) ≡ b
@@ -42,40 +41,20 @@ spelled_key c objects o at = elim (option_cases o.spot.content) [ inl h ↦ rw h
 spelled_thing : (c : ℕ) (objects : List Placed) (o : Placed) (before rest : Bytes) → thing_of (before ++ (object_bytes c objects o ++ rest)) (spelled_object (length before) (spelled c objects o)).shape ≡ seen c objects o
 spelled_thing c objects o before rest = elim (option_cases o.spot.content) [ inl h ↦ rw h.1 (ap AFile (file_content before rest o.key h.0)) | inr h ↦ rw h refl ]
 
-first_step : (bytes key : Bytes) (x : Object) (xs : List Object) (t : Bool) → same_name key x.key ≡ t → first_of_key bytes key (x ∷ xs) ≡ cond t (Some (thing_of bytes x.shape)) (first_of_key bytes key xs)
-first_step bytes key x xs t e = rw e refl
-
-find_step : (p : Placed → Bool) (x : Placed) (xs : List Placed) (t : Bool) → p x ≡ t → find p (x ∷ xs) ≡ cond t (Some x) (find p xs)
-find_step p x xs t e = rw e refl
-
 -- the first object of a key, in a module's bytes
 first_found : (c : ℕ) (objects os : List Placed) (before : Bytes) (k : ℕ) → k < 8194 → AreSmall os
     → first_of_key (before ++ flat_map (object_bytes c objects) os) (key_bytes k) (spelled_objects (length before) (map (spelled c objects) os))
     ≡ option_map (seen c objects) (find (λ q. k == q.key) os)
 first_found c objects [] before k lk small = refl
 first_found c objects (o ∷ os) before k lk small =
-    let test : same_name (key_bytes k) (spelled_object (length before) (spelled c objects o)).key ≡ (k == o.key) = ap (λ z. same_name (key_bytes k) z) (spelled_key c objects o (length before)) ∙ same_keys k o.key lk (small 0 o (omega arith)) in
-    let rest = first_found c objects os (before ++ object_bytes c objects o) k lk (λ i d lt. small (suc i) d (omega (arith, lt))) in
+    let own = object_bytes c objects o in
     let later = flat_map (object_bytes c objects) os in
-    let bytes : (before ++ object_bytes c objects o) ++ later ≡ before ++ (object_bytes c objects o ++ later) = append_assoc before (object_bytes c objects o) later in
-    let place : length (before ++ object_bytes c objects o) ≡ length before + length (spelled_bytes (spelled c objects o)) = omega (arith, length-append before (object_bytes c objects o), ap length (spelled_is c objects o)) in
-    go (k == o.key) refl test (ap (λ b. first_of_key b (key_bytes k) (spelled_objects (length before + length (spelled_bytes (spelled c objects o))) (map (spelled c objects) os))) (sym bytes)
-    ∙ (ap (λ n. first_of_key ((before ++ object_bytes c objects o) ++ later) (key_bytes k) (spelled_objects n (map (spelled c objects) os))) (sym place) ∙ rest)) where
-      all : Bytes
-      all = before ++ (object_bytes c objects o ++ flat_map (object_bytes c objects) os)
-
-      objs : List Object
-      objs = spelled_objects (length before + length (spelled_bytes (spelled c objects o))) (map (spelled c objects) os)
-
-      go : (t : Bool) → (k == o.key) ≡ t → same_name (key_bytes k) (spelled_object (length before) (spelled c objects o)).key ≡ (k == o.key)
-          → first_of_key all (key_bytes k) objs ≡ option_map (seen c objects) (find (λ q. k == q.key) os)
-          → first_of_key all (key_bytes k) (spelled_object (length before) (spelled c objects o) ∷ objs) ≡ option_map (seen c objects) (find (λ q. k == q.key) (o ∷ os))
-      go true et test rest =
-          first_step all (key_bytes k) (spelled_object (length before) (spelled c objects o)) objs true (test ∙ et)
-          ∙ (ap Some (spelled_thing c objects o before (flat_map (object_bytes c objects) os)) ∙ sym (ap (option_map (seen c objects)) (find_step (λ q. k == q.key) o os true et)))
-      go false et test rest =
-          first_step all (key_bytes k) (spelled_object (length before) (spelled c objects o)) objs false (test ∙ et)
-          ∙ (rest ∙ sym (ap (option_map (seen c objects)) (find_step (λ q. k == q.key) o os false et)))
+    let test : same_name (key_bytes k) (spelled_object (length before) (spelled c objects o)).key ≡ (k == o.key) = ap (same_name (key_bytes k)) (spelled_key c objects o (length before)) ∙ same_keys k o.key lk (small 0 o (omega arith)) in
+    let place : length (before ++ own) ≡ length before + length (spelled_bytes (spelled c objects o)) = omega (arith, length-append before own, ap length (spelled_is c objects o)) in
+    let rest : first_of_key (before ++ (own ++ later)) (key_bytes k) (spelled_objects (length before + length (spelled_bytes (spelled c objects o))) (map (spelled c objects) os)) ≡ option_map (seen c objects) (find (λ q. k == q.key) os) =
+    (λ i. first_of_key (sym (append_assoc before own later) i) (key_bytes k) (spelled_objects (sym place i) (map (spelled c objects) os)))
+    ∙ first_found c objects os (before ++ own) k lk (All-tail (λ q. q.key < 8194) o os small) in
+    elim (cases_Bool (k == o.key)) [ inl e ↦ rw (test, e) (ap Some (spelled_thing c objects o before later)) | inr e ↦ rw (test, e) rest ]
 
 -- ---- an object among others
 
@@ -85,28 +64,21 @@ In o (x ∷ xs) = (x ≡ o) ⊎ In o xs
 
 pub in_all : (P : Placed → Type 0) (xs : List Placed) (o : Placed) → All P xs → In o xs → P o
 in_all P [] o all has = absurd has
-in_all P (x ∷ xs) o all (inl is) = subst P is (all 0 x (omega arith))
-in_all P (x ∷ xs) o all (inr has) = in_all P xs o (λ i d lt. all (suc i) d (omega (arith, lt))) has
+in_all P (x ∷ xs) o all (inl is) = subst P is (All-head P x xs all)
+in_all P (x ∷ xs) o all (inr has) = in_all P xs o (All-tail P x xs all) has
 
 pub all_in : (P : Placed → Type 0) (xs : List Placed) → ((o : Placed) → In o xs → P o) → All P xs
-all_in P [] h = λ k d lt. absurd (omega (arith, lt))
+all_in P [] h = λ k d lt. absurd (omega arith)
 all_in P (x ∷ xs) h = All-cons P x xs (h x (inl refl)) (all_in P xs (λ o has. h o (inr has)))
-
-other_key : (xs : List Placed) (o : Placed) (k : ℕ) → list_any (λ j. j == k) (map (λ x. x.key) xs) ≡ false → In o xs → (o.key == k) ≡ false
-other_key [] o k none has = absurd has
-other_key (x ∷ xs) o k none (inl is) = subst (λ z. (z.key == k) ≡ false) is (or_parts (x.key == k) _ none).0
-other_key (x ∷ xs) o k none (inr has) = other_key xs o k (or_parts (x.key == k) _ none).1 has
-
-find_filter_skip : (p t : Placed → Bool) (x : Placed) (xs : List Placed) → p x ≡ false → find p (filter t (x ∷ xs)) ≡ find p (filter t xs)
-find_filter_skip p t x xs e = cond_both (t x) (x ∷ filter t xs) (filter t xs) (λ l. find p l ≡ find p (filter t xs)) (λ _. find_step p x (filter t xs) false e) (λ _. refl)
 
 -- the object of its key in its module
 key_found : (xs : List Placed) (o : Placed) → Distinct (map (λ x. x.key) xs) → In o xs → find (λ q. o.key == q.key) (filter (is_in o.module_id) xs) ≡ Some o
 key_found [] o d has = absurd has
-key_found (x ∷ xs) o d (inl is) = subst (λ z. find (λ q. z.key == q.key) (filter (is_in z.module_id) (x ∷ xs)) ≡ Some z) is here where
-  here : find (λ q. x.key == q.key) (filter (is_in x.module_id) (x ∷ xs)) ≡ Some x
-  here = rw (eq-eqb x.module_id x.module_id refl) (find_step (λ q. x.key == q.key) x (filter (is_in x.module_id) xs) true (eq-eqb x.key x.key refl))
-key_found (x ∷ xs) o d (inr has) = find_filter_skip (λ q. o.key == q.key) (is_in o.module_id) x xs (other_key xs o x.key d.0 has) ∙ key_found xs o d.1 has
+key_found (x ∷ xs) o d (inl is) = subst (λ z. find (λ q. z.key == q.key) (filter (is_in z.module_id) (x ∷ xs)) ≡ Some z) is (rw (eq-eqb x.module_id x.module_id refl, eq-eqb x.key x.key refl) refl)
+key_found (x ∷ xs) o d (inr has) =
+    let other : x.key ≢ o.key = in_all (λ y. x.key ≢ y.key) xs o (all_unmap (λ k. x.key ≢ k) (λ y. y.key) xs d.0) has in
+    cond_both (is_in o.module_id x) (x ∷ filter (is_in o.module_id) xs) (filter (is_in o.module_id) xs) (λ l. find (λ q. o.key == q.key) l ≡ Some o)
+    (λ _. rw (ne_eqb o.key x.key (λ e. other (sym e))) (key_found xs o d.1 has)) (λ _. key_found xs o d.1 has)
 
 used : (xs : List Placed) (o : Placed) → In o xs → list_any (is_in o.module_id) xs ≡ true
 used [] o has = absurd has
@@ -127,16 +99,14 @@ in_range c objects a (suc n) m low high has = elim (cases_eq a m) [
       elim (cases_Bool (list_any (is_in a) objects)) [ inl h ↦ rw (h, ne_eqb a m ne) rest | inr h ↦ rw h rest ]
 ]
 
-below_greatest : (os : List Placed) (o : Placed) → In o os → o.module_id ≤ greatest (map (λ x. x.module_id) os)
-below_greatest os o has = go os 0 o has where
-  go : (os : List Placed) (a : ℕ) (o : Placed) → In o os → o.module_id ≤ fold max a (map (λ x. x.module_id) os)
-  go [] a o has = absurd has
-  go (x ∷ xs) a o (inl is) = subst (λ z. z.module_id ≤ fold max (max a x.module_id) (map (λ y. y.module_id) xs)) is (omega (arith, fold_least (map (λ y. y.module_id) xs) (max a x.module_id)))
-  go (x ∷ xs) a o (inr has) = go xs (max a x.module_id) o has
+below_greatest : (os : List Placed) (a : ℕ) (o : Placed) → In o os → o.module_id ≤ fold max a (map (λ x. x.module_id) os)
+below_greatest [] a o has = absurd has
+below_greatest (x ∷ xs) a o (inl is) = subst (λ z. z.module_id ≤ fold max (max a x.module_id) (map (λ y. y.module_id) xs)) is (omega (arith, fold_least (map (λ y. y.module_id) xs) (max a x.module_id)))
+below_greatest (x ∷ xs) a o (inr has) = below_greatest xs (max a x.module_id) o has
 
 pub module_found : (c : ℕ) (objects : List Placed) (o : Placed) → In o objects → 1 ≤ o.module_id → module_in (layout_of c objects) o.module_id ≡ Some (module_bytes c objects o.module_id)
 module_found c objects o has low =
-    let most = below_greatest objects o has in
+    let most = below_greatest objects 0 o has in
     in_range c objects 1 (greatest (map (λ x. x.module_id) objects)) o.module_id low (omega (arith, most)) (used objects o has)
 
 -- what is asked of a generation's objects

@@ -1,8 +1,8 @@
 -- How often each module has changed, by id.
-use Rattle.std.proofs.Common.{◌≡◌, ℕ, ◌+◌, ◌<◌, ◌≤◌, ◌==◌, max, ltb, Bool, true, false, cond, List, [], ◌∷◌, length, map, get_or, Some, None, refl, sym, ◌∙◌, ap, arith}
-use Rattle.generation.proofs.Words.{All, find, fold, option_map, range_with_len, ne_eqb, eqb-true, ltb-true, ltb-false, get_or_past, All-map, length-map-range_with_len, get_or-map-range_with_len, Layout, module_in, same_module, count_after, counts_after, ids_counted, view_listed, IsMarked, AreMarked, Listed, count_in, one_if_changed}
+use Rattle.std.proofs.Common.{◌≡◌, ℕ, ◌+◌, ◌<◌, ◌≤◌, ◌==◌, max, cond, List, [], ◌∷◌, length, map, get_or, Some, None, refl, sym, ◌∙◌, ap, arith, inl, inr}
+use Rattle.generation.proofs.Words.{All, find, fold, option_map, range_with_len, ne_eqb, eqb-true, cases_lt, get_or_past, All-map, length-map-range_with_len, get_or-map-range_with_len, Layout, module_in, same_module, count_after, counts_after, ids_counted, view_listed, IsMarked, AreMarked, Listed, count_in, one_if_changed}
 use Rattle.generation.proofs.Searching.{listed_in}
-use Rattle.generation.proofs.Keyed.{found_all, found_passes}
+use Rattle.generation.proofs.Keyed.{found_is}
 use Rattle.generation.proofs.Law.{rises_little}
 use Rattle.generation.proofs.Writing.{small_count}
 
@@ -21,20 +21,18 @@ not_counted (x ∷ xs) end m past =
 -- ---- one generation on
 
 pub count_step : (old new : Layout) (counts : List ℕ) (m : ℕ) → count_in (counts_after old new counts) m ≡ count_in counts m + one_if_changed (module_in old m) (module_in new m)
-count_step old new counts m = go (ltb m (ids_counted new counts)) refl where
-  n : ℕ
-  n = ids_counted new counts
-
-  go : (t : Bool) → ltb m (ids_counted new counts) ≡ t → count_in (counts_after old new counts) m ≡ count_in counts m + one_if_changed (module_in old m) (module_in new m)
-  go true t = get_or-map-range_with_len (count_after old new counts) 0 n m m 0 (ltb-true m n t) (omega arith)
-  go false t =
-      let past : n ≤ m = ltb-false m n t in
-      let up : length counts ≤ n = counted_up new (length counts) in
-      let many : length (counts_after old new counts) ≡ n = length-map-range_with_len (count_after old new counts) 0 n in
-      let none : one_if_changed (module_in old m) (module_in new m) ≡ 0 = ap (one_if_changed (module_in old m)) (not_counted new (length counts) m past) in
-      let before : count_in counts m ≡ 0 = get_or_past counts m 0 (omega (arith, up, past)) in
-      let after : count_in (counts_after old new counts) m ≡ 0 = get_or_past (counts_after old new counts) m 0 (omega (arith, many, past)) in
-      omega (arith, none, before, after)
+count_step old new counts m =
+    let n = ids_counted new counts in
+    elim (cases_lt m n) [
+      | inl lt ↦ get_or-map-range_with_len (count_after old new counts) 0 n m m 0 lt (omega arith)
+      | inr past ↦
+          let up = counted_up new (length counts) in
+          let many = length-map-range_with_len (count_after old new counts) 0 n in
+          let none : one_if_changed (module_in old m) (module_in new m) ≡ 0 = ap (one_if_changed (module_in old m)) (not_counted new (length counts) m past) in
+          let before : count_in counts m ≡ 0 = get_or_past counts m 0 (omega (arith, up, past)) in
+          let after : count_in (counts_after old new counts) m ≡ 0 = get_or_past (counts_after old new counts) m 0 (omega (arith, many, past)) in
+          omega (arith, none, before, after)
+    ]
 
 -- counts rise by one at most
 pub small_counts : (old new : Layout) (counts : List ℕ) (n : ℕ) → All (λ c. c ≤ n) counts → All (λ c. c ≤ n + 1) (counts_after old new counts)
@@ -50,8 +48,8 @@ small_counts old new counts n all =
 pub marked_once : (before : Layout) (ms : List Listed) (id : ℕ) (l : Listed) → AreMarked before ms → find (λ x. x.id == id) ms ≡ Some l
     → one_if_changed (module_in before id) (module_in (map view_listed ms) id) ≡ cond l.stays 0 1
 marked_once before ms id l marked e =
-    let mark : l.stays ≡ same_module (module_in before id) (Some l.bytes) =
-    found_all (IsMarked before) (λ x. x.id == id) ms marked l e ∙ ap (λ j. same_module (module_in before j) (Some l.bytes)) (eqb-true l.id id (found_passes (λ x. x.id == id) ms l e)) in
+    let found = found_is (IsMarked before) (λ x. x.id == id) ms marked l e in
+    let mark : l.stays ≡ same_module (module_in before id) (Some l.bytes) = found.0 ∙ ap (λ j. same_module (module_in before j) (Some l.bytes)) (eqb-true l.id id found.1) in
     ap (one_if_changed (module_in before id)) (listed_in ms id ∙ ap (option_map (λ x. x.bytes)) e) ∙ ap (λ b. cond b 0 1) (sym mark)
 
 -- and one that isn't listed has none

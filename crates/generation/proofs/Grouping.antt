@@ -1,7 +1,7 @@
 -- Which DII lists which module, and how many one lists.
 use Rattle.std.proofs.Common.{◌≡◌, ℕ, zero, suc, ◌+◌, ◌-◌, ◌*◌, ◌<◌, ◌≤◌, inl, inr, ◌==◌, List, [], ◌∷◌, ◌++◌, length, get_or, Some, ◌∙◌, ap, subst, arith}
 use Rattle.carousel_profile.specs.declared.TheConstants.{BLOCK_SIZE}
-use Rattle.generation.proofs.Words.{All, AllPairs, Contains, flat_map, eqb-true, cases_Bool, same_Some, get_or-map, length-map, All-head, All-tail, All-cons, All-append, All-filter, filter_passes, AllPairs-filter, Bytes, block_count_of, GROUP_SIZE, id_of_group, Layout, module_in, Line, IsGroupOf, AreLines, diis_of, blocks_of, Dsi, Dii, all_diis, all_blocks_of, is_in_group, group_in, GenerationState, lines_in, lines_of, items_of, layout_at, HasDii, IsRising, Item, group_of}
+use Rattle.generation.proofs.Words.{All, AllPairs, Contains, flat_map, eqb-true, cases_Bool, same_Some, get_or-map, length-map, All-head, All-tail, All-cons, All-append, All-filter, filter_passes, AllPairs-filter, Bytes, block_count_of, GROUP_SIZE, id_of_group, Layout, module_in, Line, IsGroupOf, AreLines, diis_of, blocks_of, Dsi, Dii, all_diis, all_blocks_of, is_in_group, group_in, GenerationState, lines_in, lines_of, items_of, layout_at, HasDii, IsRising, Item, group_of, all_unmap}
 use Rattle.cycle_planner.specs.Places.{IsListed}
 
 -- ---- how many modules a DII lists
@@ -31,7 +31,7 @@ few_of_group ms j is some =
 
 -- ---- which groups have a DII: by the layout, and by its lines
 
-line_there : (layout : Layout) (m : ℕ) (bytes : Bytes) → module_in layout m ≡ Some bytes → Contains (lines_in layout) (m, block_count_of (length bytes) BLOCK_SIZE)
+pub line_there : (layout : Layout) (m : ℕ) (bytes : Bytes) → module_in layout m ≡ Some bytes → Contains (lines_in layout) (m, block_count_of (length bytes) BLOCK_SIZE)
 line_there [] m bytes e = cc
 line_there (x ∷ xs) m bytes e = elim (cases_Bool (x.0 == m)) [
   | inl t ↦ (0, omega arith, ap (λ i. (i, block_count_of (length x.1) BLOCK_SIZE)) (eqb-true x.0 m t) ∙ ap (λ b. (m, block_count_of (length b) BLOCK_SIZE)) (same_Some x.1 bytes (rw t at e)))
@@ -49,7 +49,7 @@ at_layout P (l ∷ ls) zero all lt = All-head P l ls all
 at_layout P (l ∷ ls) (suc g) all lt = at_layout P ls g (All-tail P l ls all) (omega (arith, lt))
 
 -- modules whose lines have a cycle rise
-abbrev line_of : ℕ × Bytes → Line
+abbrev pub line_of : ℕ × Bytes → Line
 line_of m = (m.0, block_count_of (length m.1) BLOCK_SIZE)
 
 id_at : (layout : Layout) (k : ℕ) (d : ℕ × Bytes) → k < length layout → (get_or (lines_in layout) k (0, 0)).0 ≡ (get_or layout k d).0
@@ -62,9 +62,7 @@ rising_of layout are =
       rising = λ i j d lt inside.
           let up = are.rising i j (0, 0) lt (omega (arith, inside, n)) in
           omega (arith, up, id_at layout i d (omega (arith, lt, inside)), id_at layout j d inside);
-      from_one = λ k d lt.
-          let low = (are.ids k (0, 0) (omega (arith, lt, n))).0 in
-          omega (arith, low, id_at layout k d lt);
+      from_one = all_unmap (λ l. 1 ≤ l.0) line_of layout (λ k d lt. (are.ids k d lt).0);
     }
 
 -- ---- the DIIs among the items of a generation

@@ -1,10 +1,10 @@
 -- What is written of objects are bytes.
 use Rattle.std.proofs.Common.{◌≡◌, ℕ, suc, ◌<◌, ◌≤◌, true, List, [], ◌∷◌, ◌++◌, length, Option, Some, None, refl, arith, nat_lt, lit<, inl, inr}
-use Rattle.generation.proofs.Words.{All, filter, flat_map, list_all, All-cons, All-append, and_parts, ltb-true, cases_Bool, cond_both, IsBytes, two_bytes, four_bytes, eight_bytes, Bytes, Location, biop, kind_of, file_spelling, binding_spelling, bound_tail, bound_kind, FolderKind, Directory, Gateway, is_child, key_bytes, bound_of, folder_kind_of, object_bytes, is_in, module_bytes, Placed, entries_of}
+use Rattle.generation.proofs.Words.{All, filter, flat_map, list_all, All-cons, All-append, and_parts, ltb-true, cases_Bool, cond_both, IsBytes, two_bytes, four_bytes, eight_bytes, Bytes, Location, biop, kind_of, file_spelling, binding_spelling, bound_tail, bound_kind, FolderKind, Directory, Gateway, is_child, key_bytes, bound_of, folder_kind_of, object_bytes, is_in, module_bytes, Placed, entries_of, option_cases}
 use Rattle.ior_tap.specs.Iors as iors
 use Rattle.ior_tap.specs.declared.tags.TheConstants.{BIOP_TAG, LOCATION_TAG, BINDER_TAG}
 use Rattle.biop_object.specs.declared.reading.TheConstants.{FILE, DIRECTORY}
-use Rattle.generation.proofs.Numbering.{child_has, option_cases, IsValidSpot}
+use Rattle.generation.proofs.Numbering.{child_has, IsValidSpot}
 
 pub record Octets (xs : List ℕ) : Type 0 where
   pub all : IsBytes xs

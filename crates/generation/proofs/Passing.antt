@@ -6,8 +6,7 @@ use Rattle.path_tree.specs.declared.entry.Entry.TheVariants as entries
 use Rattle.path_tree.specs.Nestings.{IsKnown}
 use Rattle.generation.specs.Publication.{count_in}
 use Rattle.generation.proofs.Keyed.{range_more}
-use Rattle.generation.proofs.Numbering.{length-spots}
-use Rattle.generation.proofs.Standing.{names_differ}
+use Rattle.generation.proofs.Standing.{length-spots, names_differ}
 
 -- ---- below the names of a folder
 
@@ -148,10 +147,8 @@ passed front (FileThen n b rest) s nesting q e before =
     let more = passed front rest one nesting.1 (n ∷ []) refl nesting.0 in
     let is : met_all s front (flat (FileThen n b rest)) ≡ met_all one front (flat rest) = ap (λ u. met_all u front (flat rest)) (names_entered front q n [] (entries.File b) s e (is_else q n (FileThen n b rest) (λ m h. h.0) before)) in
     subst (Passed front (FileThen n b rest) s) (sym is) (record {
-      spots = more.spots
-          ∙ (append_assoc s.spots (x ∷ []) (map (within front) (spots_in (one.folders (length front)) (length one.spots) rest))
-          ∙ (ap (λ p. s.spots ++ x ∷ map (within front) (spots_in p (length one.spots) rest)) (above front n (Some b) s (length front) (omega arith))
-          ∙ ap (λ k. s.spots ++ x ∷ map (within front) (spots_in (s.folders (length front)) k rest)) (one_long s x)));
+      spots = more.spots ∙ append_assoc s.spots (x ∷ []) (map (within front) (spots_in (one.folders (length front)) (length one.spots) rest))
+          ∙ (λ i. s.spots ++ x ∷ map (within front) (spots_in (above front n (Some b) s (length front) (omega arith) i) (one_long s x i) rest));
       folders = λ k le. more.folders k le ∙ above front n (Some b) s k le;
       last = more.last;
     })
@@ -165,21 +162,16 @@ passed front (FolderThen n made inside rest) s nesting q e before =
     let next = length s.spots in
     let parent = s.folders (length front) in
     let reached : two.spots ≡ s.spots ++ x ∷ map (within (front ++ n ∷ [])) (spots_in next (suc next) inside) =
-    deep.spots ∙ (append_assoc s.spots (x ∷ []) (map (within (front ++ n ∷ [])) (spots_in (one.folders (length (front ++ n ∷ []))) (length one.spots) inside))
-    ∙ (ap (λ k. s.spots ++ x ∷ map (within (front ++ n ∷ [])) (spots_in k (length one.spots) inside)) (ap one.folders long ∙ own front n None s)
-    ∙ ap (λ k. s.spots ++ x ∷ map (within (front ++ n ∷ [])) (spots_in next k inside)) (one_long s x))) in
+    deep.spots ∙ append_assoc s.spots (x ∷ []) (map (within (front ++ n ∷ [])) (spots_in (one.folders (length (front ++ n ∷ []))) (length one.spots) inside))
+    ∙ (λ i. s.spots ++ x ∷ map (within (front ++ n ∷ [])) (spots_in ((ap one.folders long ∙ own front n None s) i) (one_long s x i) inside)) in
     let down = map (within (front ++ n ∷ [])) (spots_in next (suc next) inside) in
     let count : length two.spots ≡ suc (next + count_in inside) =
     omega (arith, ap length reached, length-append s.spots (x ∷ down), length-map (spots_in next (suc next) inside) (within (front ++ n ∷ [])), length-spots next (suc next) inside) in
     let kept : two.folders (length front) ≡ parent = deep.folders (length front) (omega (arith, long)) ∙ above front n None s (length front) (omega arith) in
     let others = spots_in parent (suc (next + count_in inside)) rest in
     subst (Passed front (FolderThen n made inside rest) s) (sym (folder_met front q n made inside rest s nesting e (is_else q n (FolderThen n made inside rest) (λ m h. h.0) before))) (record {
-      spots = more.spots
-          ∙ (ap (λ k. two.spots ++ map (within front) (spots_in k (length two.spots) rest)) kept
-          ∙ (ap (λ k. two.spots ++ map (within front) (spots_in parent k rest)) count
-          ∙ (ap (λ l. l ++ map (within front) others) reached
-          ∙ (append_assoc s.spots (x ∷ down) (map (within front) others)
-          ∙ ap (λ l. s.spots ++ x ∷ l) (ap (λ l. l ++ map (within front) others) (sym (within_below front n (spots_in next (suc next) inside))) ∙ sym (map-append (within front) (map (below n) (spots_in next (suc next) inside)) others))))));
+      spots = more.spots ∙ (λ i. reached i ++ map (within front) (spots_in (kept i) (count i) rest)) ∙ append_assoc s.spots (x ∷ down) (map (within front) others)
+          ∙ ap (λ l. s.spots ++ x ∷ l) (ap (λ l. l ++ map (within front) others) (sym (within_below front n (spots_in next (suc next) inside))) ∙ sym (map-append (within front) (map (below n) (spots_in next (suc next) inside)) others));
       folders = λ k le. more.folders k le ∙ (deep.folders k (omega (arith, long, le)) ∙ above front n None s k le);
       last = more.last;
     })

@@ -1,9 +1,13 @@
--- The objects of a generation: as many keys and modules as objects, and the sizes of their bytes.
-use Rattle.std.proofs.Common.{◌≡◌, ◌||◌, ℕ, zero, suc, ◌+◌, ◌-◌, ◌<◌, ◌≤◌, max, Bool, true, false, not, List, [], ◌∷◌, ◌++◌, length, map, Option, Some, None, refl, sym, ◌∙◌, ap, arith, get_or, length-append, append-nil, ◌==◌, nat_lt, sum, inl, inr}
-use Rattle.generation.proofs.Words.{ne_eqb, eq-eqb, cases_eq, All, find, sum_by, filter, filter_map, flat_map, list_any, range_with_len, fold, cons_option, AllPairs, sum_by-cons, All-cons, filter_map-append, All-nil, map-append, get_or-map, length-map, GREATEST_ID, Bytes, Tree, IsTree, folder_spelling, binding_spelling, bound_tail, bound_kind, FolderKind, Directory, Gateway, length-range_with_len, cases_Bool, ltb-false, AllPairs-cons, modules_needed, size_of, spots_of, sizes_of, binding_size, binding_rest, is_child, is_large_folder, large_folder, limit_of, or_else, over, Passed, Objects, Total, Modules, placed_all, fill_keys, free_keys, taken_in, old_keys, keys_of, written_in, object_bytes, key_bytes, location_of, bound_of, folder_kind_of, is_in, module_bytes, module_if_used, layout_of, greatest, IsBelow, view_spot, view_placed, placed_from, IsSpotIn, AreFoldered, AreReady, CodeSpot, CodePlaced, Spot, Placed, entries_of}
-use Rattle.generation.proofs.Keyed.{range_more}
+-- The objects of a tree after those of another: their keys and modules, their sizes, and what can be placed after them.
+use Rattle.std.proofs.Common.{◌≡◌, ◌||◌, ℕ, zero, suc, ◌+◌, ◌<◌, ◌≤◌, max, Bool, true, false, not, List, [], ◌∷◌, ◌++◌, length, map, Option, Some, None, refl, sym, ◌∙◌, ap, subst, arith, get_or, length-append, ◌==◌, nat_lt, sum, inl, inr}
+use Rattle.generation.proofs.Words.{ne_eqb, eq-eqb, cases_eq, All, find, sum_by, filter, filter_map, flat_map, list_any, range_with_len, fold, slice_get, zip, sum_by-cons, All-cons, All-nil, All-map, length-map, firsts-zip, seconds-zip, same_Some, GREATEST_ID, Bytes, Tree, IsTree, folder_spelling, binding_spelling, bound_tail, bound_kind, FolderKind, Directory, Gateway, cases_Bool, ltb-false, IsPlacement, KeptIsAPlacement, AreObjects, kept_modules, sizes_in, modules_needed, gateway_spot, AreRising, size_of, spots_of, sizes_of, binding_size, binding_rest, is_child, is_large_folder, large_folder, limit_of, or_else, over, Passed, Objects, Total, Modules, placed_all, objects_after, placed_at, is_same_spot, key_in, module_of, modules_for, old_modules, fill_keys, free_keys, taken_in, old_keys, keys_of, written_in, object_bytes, key_bytes, location_of, bound_of, folder_kind_of, group_by, ByFolder, IsBelow, view_spot, view_placed, placed_from, IsSpotIn, IsId, IsWeighed, Weighed, ArePlaced, AreOld, CodeSpot, CodePlaced, Spot, Placed, entries_of, all_unmap, option_cases}
+use Rattle.module_packer.specs.Kept.{Placed as Sized}
+use Rattle.generation.proofs.Keyed.{found_is}
+use Rattle.generation.proofs.Writing.{keys_are}
 use Rattle.oc_bytes.specs.Outcome.{cap_at_u64, cap_at_u32}
-use Rattle.generation.proofs.Numbering.{number_at, all_numbered, all_in_folders, all_unmap, option_cases}
+use Rattle.biop_object.specs.declared.written.TheConstants.{MOST_FOLDER_SIZE}
+use Rattle.generation.proofs.Numbering.{in_folder}
+use Rattle.generation.proofs.Standing.{rising_all}
 
 -- ---- keys
 
@@ -55,6 +59,10 @@ length-keys_of old spots =
     length-filled keys (free_keys (taken_in keys) (length spots)) (omega (arith, many, n, nones_rest keys)) ∙ n
 
 -- ---- objects
+
+pub fold_least : (ms : List ℕ) (a : ℕ) → a ≤ fold max a ms
+fold_least [] a = omega arith
+fold_least (m ∷ ms) a = omega (arith, fold_least ms (max a m))
 
 pub placed_parts : (spots : List Spot) (keys ms : List ℕ) → length keys ≡ length spots → length ms ≡ length spots
     → (map (λ o. o.spot) (placed_all spots keys ms) ≡ spots) × (map (λ o. o.key) (placed_all spots keys ms) ≡ keys) × (map (λ o. o.module_id) (placed_all spots keys ms) ≡ ms)
@@ -110,9 +118,13 @@ length-object_bytes c objects o = elim (option_cases o.spot.content) [
 
 -- ---- limits
 
+find_none : {A : Type 0} (p : A → Bool) (xs : List A) → find p xs ≡ None → All (λ x. p x ≡ false) xs
+find_none p [] e = All-nil (λ x. p x ≡ false)
+find_none p (x ∷ xs) e = elim (cases_Bool (p x)) [ inl h ↦ let bad = rw h at e in cc | inr h ↦ All-cons (λ x. p x ≡ false) x xs h (find_none p xs (rw h at e)) ]
+
 pub record Within (t : Tree) : Type 0 where
   pub few : length (spots_of t) ≤ 8192
-  pub folders : find (is_large_folder (spots_of t)) (spots_of t) ≡ None
+  pub folders : All (λ s. is_large_folder (spots_of t) s ≡ false) (spots_of t)
   pub total : sum (sizes_of t) ≤ 268435456
   pub modules : modules_needed (sizes_of t) ≤ GREATEST_ID
 
@@ -136,14 +148,10 @@ within_limits t e =
     let c = passed_none (over (nat_lt 268435456 (sum (sizes_of t))) (Total (cap_at_u64 (sum (sizes_of t))))) _ b.1 in
     record {
       few = ltb-false 8192 (length all) (over_none (nat_lt 8192 (length all)) (Objects (cap_at_u32 (length all))) a.0);
-      folders = no_folder (find (is_large_folder all) all) b.0;
+      folders = find_none (is_large_folder all) all (no_folder (find (is_large_folder all) all) b.0);
       total = ltb-false 268435456 (sum (sizes_of t)) (over_none _ (Total (cap_at_u64 (sum (sizes_of t)))) c.0);
       modules = ltb-false GREATEST_ID (modules_needed (sizes_of t)) (over_none _ (Modules (cap_at_u64 (modules_needed (sizes_of t)))) c.1);
     }
-
-pub find_none : {A : Type 0} (p : A → Bool) (xs : List A) → find p xs ≡ None → All (λ x. p x ≡ false) xs
-find_none p [] e = All-nil (λ x. p x ≡ false)
-find_none p (x ∷ xs) e = elim (cases_Bool (p x)) [ inl h ↦ let bad = rw h at e in cc | inr h ↦ All-cons (λ x. p x ≡ false) x xs h (find_none p xs (rw h at e)) ]
 
 pub folder_small : (spots : List Spot) (s : Spot) → s.content ≡ None → is_large_folder spots s ≡ false → size_of spots s ≤ 1048576
 folder_small spots s e small = go s.content e small where
@@ -153,126 +161,118 @@ folder_small spots s e small = go s.content e small where
 
 -- ---- modules
 
-pub fold_least : (ms : List ℕ) (a : ℕ) → a ≤ fold max a ms
-fold_least [] a = omega arith
-fold_least (m ∷ ms) a = omega (arith, fold_least ms (max a m))
+sizes_are : (old : List Placed) (t : Tree) → sizes_in (zip (sizes_of t) (old_modules old (spots_of t))) ≡ sizes_of t
+sizes_are old t = firsts-zip (sizes_of t) (old_modules old (spots_of t)) (length-map (spots_of t) (λ s. module_of (placed_at old s)) ∙ sym (length-map (spots_of t) (size_of (spots_of t))))
 
-pub greatest_most : (ms : List ℕ) (n : ℕ) → All (λ m. (1 ≤ m) × (m ≤ n)) ms → greatest ms ≤ n
-greatest_most ms n all = go ms 0 n (omega arith) all where
-  go : (ms : List ℕ) (a n : ℕ) → a ≤ n → All (λ m. (1 ≤ m) × (m ≤ n)) ms → fold max a ms ≤ n
-  go [] a n le all = le
-  go (m ∷ ms) a n le all = let h = all 0 m (omega arith) in go ms (max a m) n (omega (arith, le, h.1)) (λ k d lt. all (suc k) d (omega (arith, lt)))
-
-few_cons : {A : Type 0} (o : Option A) (ys : List A) (n : ℕ) → length ys ≤ n → length (cons_option o ys) ≤ suc n
-few_cons (Some y) ys n h = omega (arith, h)
-few_cons None ys n h = omega (arith, h)
-
-pub few_kept : {A B : Type 0} (f : A → Option B) (xs : List A) → length (filter_map f xs) ≤ length xs
-few_kept f [] = omega arith
-few_kept f (x ∷ xs) = few_cons (f x) (filter_map f xs) (length xs) (few_kept f xs)
-
--- what holds of each module that is used holds of each that is listed
-pub each_listed : (P : ℕ × Bytes → Type 0) (c : ℕ) (objects : List Placed) (a n : ℕ) → ((m : ℕ) → a ≤ m → m < a + n → list_any (is_in m) objects ≡ true → P (m, module_bytes c objects m))
-    → All P (filter_map (module_if_used c objects) (range_with_len a n))
-each_listed P c objects a zero h = All-nil P
-each_listed P c objects a (suc n) h =
-    let later = each_listed P c objects (a + 1) n (λ m low lt used. h m (omega (arith, low)) (omega (arith, lt)) used) in
-    elim (cases_Bool (list_any (is_in a) objects)) [
-      | inl e ↦ rw e (All-cons P (a, module_bytes c objects a) (filter_map (module_if_used c objects) (range_with_len (a + 1) n)) (h a (omega arith) (omega arith) e) later)
-      | inr e ↦ rw e later
-    ]
-
--- and they rise
-pub rising : (c : ℕ) (objects : List Placed) (a n : ℕ) → AllPairs (λ m n. m.0 < n.0) (filter_map (module_if_used c objects) (range_with_len a n))
-rising c objects a zero = λ i j d lt l. absurd (omega (arith, l))
-rising c objects a (suc n) = elim (cases_Bool (list_any (is_in a) objects)) [
-  | inl e ↦ rw e (AllPairs-cons (λ m n. m.0 < n.0) (a, module_bytes c objects a) (filter_map (module_if_used c objects) (range_with_len (a + 1) n))
-      (each_listed (λ m. a < m.0) c objects (a + 1) n (λ m low lt used. omega (arith, low))) (rising c objects (a + 1) n))
-  | inr e ↦ rw e (rising c objects (a + 1) n)
+module_found : (P : ℕ → Type 0) (old : List Placed) (s : Spot) → All (λ o. P o.module_id) old → (m : ℕ) → module_of (placed_at old s) ≡ Some m → P m
+module_found P old s all m e = elim (option_cases (placed_at old s)) [
+  | inl h ↦ subst P (same_Some h.0.module_id m (rw h.1 at e)) (found_is (λ o. P o.module_id) (λ o. is_same_spot o.spot s) old all h.0 h.1).0
+  | inr h ↦ let bad = rw h at e in cc
 ]
 
-pub piece_length : (f : Placed → Bytes) (p : Placed → Bool) (os : List Placed) → length (flat_map f (filter p os)) ≤ sum_by (λ o. length (f o)) os
-piece_length f p [] = omega arith
-piece_length f p (o ∷ os) =
-    let h = piece_length f p os in
-    let more = sum_by-cons (λ o. length (f o)) o os in
-    elim (cases_Bool (p o)) [ inl e ↦ rw (e, more) (omega (arith, h, length-append (f o) (flat_map f (filter p os)))) | inr e ↦ rw (e, more) (omega (arith, h)) ]
+pub are_objects : (old : List Placed) (t : Tree) → AreOld old → limit_of t ≡ None → AreObjects GREATEST_ID (zip (sizes_of t) (old_modules old (spots_of t)))
+are_objects old t are limit =
+    let Was : Option ℕ → Type 0 = λ o. (m : ℕ) → o ≡ Some m → IsId m in
+    let objects = zip (sizes_of t) (old_modules old (spots_of t)) in
+    let seconds = seconds-zip (sizes_of t) (old_modules old (spots_of t)) (length-map (spots_of t) (λ s. module_of (placed_at old s)) ∙ sym (length-map (spots_of t) (size_of (spots_of t)))) in
+    record {
+      some = omega arith;
+      few = subst (λ sizes. modules_needed sizes ≤ GREATEST_ID) (sym (sizes_are old t)) (within_limits t limit).modules;
+      first = are.gateway;
+      old = all_unmap Was (λ (x : Sized). x.1) objects (subst (All Was) (sym seconds) (All-map Was (λ s. module_of (placed_at old s)) (spots_of t) (λ k d lt m e. module_found IsId old (get_or (spots_of t) k d) are.ids m e)));
+    }
 
-pub total_length : (c : ℕ) (objects os : List Placed) → sum_by (λ o. length (object_bytes c objects o)) os ≡ sum (map (size_of (map (λ o. o.spot) objects)) (map (λ o. o.spot) os))
-total_length c objects [] = refl
-total_length c objects (o ∷ os) = sum_by-cons _ o os ∙ (omega (arith, length-object_bytes c objects o, total_length c objects os, sum_by-cons {X = ℕ} (λ n. n) (size_of (map (λ o. o.spot) objects) o.spot) (map (size_of (map (λ o. o.spot) objects)) (map (λ o. o.spot) os))))
+pub few_old : (t : Tree) (old : List Placed) (spots : List Spot) (keys : List (Option ℕ)) → limit_of t ≡ None → spots ≡ spots_of t → keys ≡ old_keys old spots → length keys ≤ 8192
+few_old t old spots keys limit es ek = omega (arith, (within_limits t limit).few, ap length ek, length-map spots (λ s. key_in (placed_at old s)), ap length es)
 
--- ---- what `next` needs of its objects
+-- where the objects stay or go is a placement
+placement_for : KeptIsAPlacement → (old : List Placed) (t : Tree) → AreOld old → limit_of t ≡ None → IsPlacement GREATEST_ID (sizes_of t) (modules_for old t)
+placement_for law old t are limit = subst (λ sizes. IsPlacement GREATEST_ID sizes (modules_for old t)) (sizes_are old t) (law GREATEST_ID (zip (sizes_of t) (old_modules old (spots_of t))) (are_objects old t are limit))
+
+-- ---- the objects of a tree after others
+
+-- each has its spot, its key and its module
+pub after_parts : KeptIsAPlacement → (old : List Placed) (t : Tree) → AreOld old → limit_of t ≡ None → (map (λ o. o.spot) (objects_after old t) ≡ spots_of t) × (map (λ o. o.key) (objects_after old t) ≡ keys_of old (spots_of t)) × (map (λ o. o.module_id) (objects_after old t) ≡ modules_for old t)
+after_parts law old t are limit = placed_parts (spots_of t) (keys_of old (spots_of t)) (modules_for old t) (length-keys_of old (spots_of t)) ((placement_for law old t are limit).each ∙ length-map (spots_of t) (size_of (spots_of t)))
+
+pub placed_after : KeptIsAPlacement → (old : List Placed) (t : Tree) → IsTree t → limit_of t ≡ None → AreOld old → ArePlaced t (objects_after old t)
+placed_after law old t tree limit are =
+    let parts = after_parts law old t are limit in
+    record { tree = tree; within = limit; spots = parts.0; placement = subst (IsPlacement GREATEST_ID (sizes_of t)) (sym parts.2) (placement_for law old t are limit) }
+
+pub placed_is : (old : List Placed) (t : Tree) (w : Weighed) → IsWeighed t w → (had : List (Option ℕ)) (was : List (Option ℕ)) (keys ms : List ℕ) (os : List CodePlaced)
+    → had ≡ old_keys old (map (view_spot t) w.spots.items) → was ≡ old_modules old (map (view_spot t) w.spots.items)
+    → keys ≡ fill_keys had (free_keys (taken_in had) (length had)) → ms ≡ kept_modules GREATEST_ID (zip w.sizes.items was)
+    → os ≡ placed_from w.spots.items keys ms → map (view_placed t) os ≡ objects_after old t
+placed_is old t w weighed had was keys ms os eh ew ek em is =
+    let spots = weighed.spots.each in
+    let keyed : keys ≡ keys_of old (spots_of t) = ek ∙ keys_are old (spots_of t) had (eh ∙ ap (old_keys old) spots) in
+    let moved : ms ≡ modules_for old t = em ∙ (ap (λ n. kept_modules GREATEST_ID (zip n was)) weighed.sizes ∙ ap (λ o. kept_modules GREATEST_ID (zip (sizes_of t) o)) (ew ∙ ap (old_modules old) spots)) in
+    ap (map (view_placed t)) is ∙ (placed_view t w.spots.items keys ms ∙ rw (spots, keyed, moved) refl)
+
+-- what holds of all objects of a tree holds of those that are placed
+pub each_spot : (P : Spot → Type 0) (t : Tree) (objects : List Placed) → ArePlaced t objects → All P (spots_of t) → All (λ o. P o.spot) objects
+each_spot P t objects placed all = all_unmap P (λ o. o.spot) objects (subst (All P) (sym placed.spots) all)
+
+pub each_id : (t : Tree) (objects : List Placed) → ArePlaced t objects → All (λ o. IsId o.module_id) objects
+each_id t objects placed = all_unmap IsId (λ o. o.module_id) objects placed.placement.numbers
+
+-- the gateway is the first object
+pub record HasGateway (objects : List Placed) : Type 0 where
+  pub gateway : Placed
+  pub rest : List Placed
+  pub first : objects ≡ gateway ∷ rest
+  pub spot : gateway.spot ≡ gateway_spot
+  pub found : placed_at objects gateway_spot ≡ Some gateway
+
+pub the_gateway : (t : Tree) (objects : List Placed) → map (λ o. o.spot) objects ≡ spots_of t → HasGateway objects
+the_gateway t [] e = cc
+the_gateway t (o ∷ os) e =
+    let is : o.spot ≡ gateway_spot = ap (λ ss. get_or ss 0 gateway_spot) e in
+    let test : is_same_spot o.spot gateway_spot ≡ true = subst (λ s. is_same_spot s gateway_spot ≡ true) (sym is) refl in
+    record { gateway = o; rest = os; first = refl; spot = is; found = rw test refl }
+
+pub first_one : (objects : List Placed) (h : HasGateway objects) (f : Placed → ℕ) → slice_get (map f objects) 0 ≡ Some 1 → f h.gateway ≡ 1
+first_one objects h f e = same_Some (f h.gateway) 1 (ap (λ os. slice_get (map f os) 0) (sym h.first) ∙ e)
+
+-- so others can be placed after them
+pub old_placed : (t : Tree) (objects : List Placed) → ArePlaced t objects → AreOld objects
+old_placed t objects placed =
+    let h = the_gateway t objects placed.spots in
+    record {
+      rising = subst AreRising (sym placed.spots) (rising_all t placed.tree);
+      ids = each_id t objects placed;
+      gateway = λ m e. same_Some m 1 (sym e ∙ (ap module_of h.found ∙ ap Some (first_one objects h (λ o. o.module_id) placed.placement.first)));
+    }
+
+-- the sizes of the objects are those of the tree
+pub lengths : (c : ℕ) (t : Tree) (objects : List Placed) → ArePlaced t objects → map (λ o. length (object_bytes c objects o)) objects ≡ sizes_of t
+lengths c t objects placed = go objects ∙ ap (λ ss. map (size_of ss) ss) placed.spots where
+  go : (os : List Placed) → map (λ o. length (object_bytes c objects o)) os ≡ map (size_of (map (λ o. o.spot) objects)) (map (λ o. o.spot) os)
+  go [] = refl
+  go (o ∷ os) = ap (λ n. n ∷ map (λ q. length (object_bytes c objects q)) os) (length-object_bytes c objects o) ∙ ap (λ ns. size_of (map (λ q. q.spot) objects) o.spot ∷ ns) (go os)
+
+-- ---- as the code has them
 
 pub modules_seen : (t : Tree) (objects : List CodePlaced) → map (λ o. o.«module») objects ≡ map (λ o. o.module_id) (map (view_placed t) objects)
 modules_seen t [] = refl
 modules_seen t (o ∷ os) = ap (λ ms. o.«module» ∷ ms) (modules_seen t os)
 
-ids_before : (f : ℕ → Option (ℕ × Bytes)) (k : ℕ) → 1 ≤ k → filter_map f (range_with_len 1 (k + 1 - 1)) ≡ filter_map f (range_with_len 1 (k - 1)) ++ cons_option (f k) []
-ids_before f k le =
-    let n : k + 1 - 1 ≡ suc (k - 1) = omega (arith, le) in
-    let at : 1 + (k - 1) ≡ k = omega (arith, le) in
-    ap (λ m. filter_map f (range_with_len 1 m)) n ∙ (ap (λ ids. filter_map f ids) (range_more 1 (k - 1)) ∙ (filter_map-append f (range_with_len 1 (k - 1)) ((1 + (k - 1)) ∷ []) ∙ ap (λ j. filter_map f (range_with_len 1 (k - 1)) ++ cons_option (f j) []) at))
+pub folders_small : (c : ℕ) (t : Tree) (os : List CodePlaced) → ArePlaced t (map (view_placed t) os) → All (λ o. o.spot.whole ≡ false → length (object_bytes c (map (view_placed t) os) (view_placed t o)) ≤ MOST_FOLDER_SIZE) os
+folders_small c t os placed = λ k d lt whole.
+    let objects = map (view_placed t) os in
+    let o = view_placed t (get_or os k d) in
+    let small = all_unmap (λ (q : Placed). is_large_folder (spots_of t) q.spot ≡ false) (view_placed t) os (each_spot (λ s. is_large_folder (spots_of t) s ≡ false) t objects placed (within_limits t placed.within).folders) k d lt in
+    let is : length (object_bytes c objects o) ≡ size_of (spots_of t) o.spot = length-object_bytes c objects o ∙ ap (λ all. size_of all o.spot) placed.spots in
+    rw is (folder_small (spots_of t) o.spot (rw whole refl) small)
 
-pub ids_more : {A : Type 0} (f : ℕ → Option (ℕ × Bytes)) (v : A → ℕ × Bytes) (k : ℕ) (xs : List A) (x : A) → 1 ≤ k → map v xs ≡ filter_map f (range_with_len 1 (k - 1))
-    → Some (v x) ≡ f k → map v (xs ++ x ∷ []) ≡ filter_map f (range_with_len 1 (k + 1 - 1))
-ids_more f v k xs x le so_far is = map-append v xs (x ∷ []) ∙ sym (ids_before f k le ∙ rw (← is, ← so_far) refl)
-
-pub ids_same : {A : Type 0} (f : ℕ → Option (ℕ × Bytes)) (v : A → ℕ × Bytes) (k : ℕ) (xs : List A) → 1 ≤ k → map v xs ≡ filter_map f (range_with_len 1 (k - 1))
-    → None ≡ f k → map v xs ≡ filter_map f (range_with_len 1 (k + 1 - 1))
-ids_same f v k xs le so_far is = sym (ids_before f k le ∙ rw (← is, ← so_far) (append-nil (map v xs)))
-
--- the objects of a tree name folders among them
-pub are_foldered : (t : Tree) (objects : List CodePlaced) → map (λ o. o.spot) (map (view_placed t) objects) ≡ spots_of t → AreFoldered objects
-are_foldered t objects spots =
-    let n : length (spots_of t) ≡ length objects = ap length (sym spots) ∙ (length-map (map (view_placed t) objects) (λ o. o.spot) ∙ length-map objects (view_placed t)) in
-    let at : (i : ℕ) (d : CodePlaced) → i < length objects → get_or (spots_of t) i (view_spot t d.spot) ≡ view_spot t (get_or objects i d).spot = λ i d lt.
-    ap (λ ss. get_or ss i (view_spot t d.spot)) (sym spots)
-    ∙ (get_or-map (λ o. o.spot) (map (view_placed t) objects) i (view_placed t d) (view_spot t d.spot) (omega (arith, lt, length-map objects (view_placed t)))
-    ∙ ap (λ (o : Placed). o.spot) (get_or-map (view_placed t) objects i d (view_placed t d) lt)) in
-    record {
-      numbers = λ i d lt. ap (λ s. s.number) (sym (at i d lt)) ∙ (number_at 0 (spots_of t) (all_numbered t) i (view_spot t d.spot) (omega (arith, lt, n)) ∙ omega arith);
-      parents = λ i d lt. below (get_or objects i d).spot.parent (λ p e.
-          let h = all_in_folders t i (view_spot t d.spot) (omega (arith, lt, n)) p (ap (λ s. s.parent) (at i d lt) ∙ e) in omega (arith, h.0, n));
-    }
+-- each stands in a folder among them
+pub all_below : (t : Tree) (os : List CodePlaced) → ArePlaced t (map (view_placed t) os) → All (λ o. IsBelow (length os) (group_by ByFolder o)) os
+all_below t os placed =
+    let n : length (spots_of t) ≡ length os = ap length (sym placed.spots) ∙ (length-map (map (view_placed t) os) (λ o. o.spot) ∙ length-map os (view_placed t)) in
+    all_unmap (λ (o : Placed). IsBelow (length os) o.spot.parent) (view_placed t) os (each_spot (λ s. IsBelow (length os) s.parent) t (map (view_placed t) os) placed
+    (λ i d lt. below (get_or (spots_of t) i d).parent (λ p e. omega (arith, n, (in_folder t placed.tree i d p lt e).0))))
   where
-    below : (o : Option ℕ) → ((p : ℕ) → o ≡ Some p → p < length objects) → IsBelow (length objects) o
+    below : (o : Option ℕ) → ((p : ℕ) → o ≡ Some p → p < length os) → IsBelow (length os) o
     below (Some p) h = h p refl
     below None h = tt
-
-pub are_ready : (c : ℕ) (t : Tree) (objects : List CodePlaced) → IsTree t → limit_of t ≡ None → All (λ o. IsSpotIn t o.spot) objects
-    → map (λ o. o.spot) (map (view_placed t) objects) ≡ spots_of t
-    → All (λ m. (1 ≤ m) × (m ≤ GREATEST_ID)) (map (λ o. o.module_id) (map (view_placed t) objects)) → AreReady c t objects
-are_ready c t objects tree limit valid spots numbers =
-    let w = within_limits t limit in
-    let objs = map (view_placed t) objects in
-    let most : greatest (map (λ o. o.module_id) objs) ≤ GREATEST_ID = greatest_most (map (λ o. o.module_id) objs) GREATEST_ID numbers in
-    let total : sum_by (λ o. length (object_bytes c objs o)) objs ≤ 268435456 = rw (total_length c objs objs, spots) w.total in
-    let folders : All (λ s. is_large_folder (spots_of t) s ≡ false) (spots_of t) = find_none (is_large_folder (spots_of t)) (spots_of t) w.folders in
-    record {
-      tree = tree;
-      spots = valid;
-      foldered = are_foldered t objects spots;
-      folders = λ k d lt whole.
-          let o = get_or objects k d in
-          let small : is_large_folder (spots_of t) (view_placed t o).spot ≡ false =
-          all_unmap (λ q. is_large_folder (spots_of t) q.spot ≡ false) (view_placed t) objects (all_unmap (λ s. is_large_folder (spots_of t) s ≡ false) (λ q. q.spot) objs (rw spots folders)) k d lt in
-          let is : length (object_bytes c objs (view_placed t o)) ≡ size_of (spots_of t) (view_placed t o).spot = length-object_bytes c objs (view_placed t o) ∙ ap (λ all. size_of all (view_placed t o).spot) spots in
-          rw is (folder_small (spots_of t) (view_placed t o).spot (rw whole refl) small);
-      listed = all_unmap (λ m. (1 ≤ m) × (m ≤ GREATEST_ID)) (λ (o : CodePlaced). o.module) objects (rw (modules_seen t objects) numbers);
-      numbers = rw (modules_seen t objects) most;
-      modules = omega (arith, few_kept (module_if_used c objs) (range_with_len 1 (greatest (map (λ o. o.module_id) objs))), length-range_with_len 1 (greatest (map (λ o. o.module_id) objs)), most);
-      sizes = each_listed (λ m. length m.1 ≤ 268435456) c objs 1 (greatest (map (λ o. o.module_id) objs)) (λ m low lt used. omega (arith, piece_length (object_bytes c objs) (is_in m) objs, total));
-    }
-
-pub listed_some : (c : ℕ) (objects : List Placed) (id : ℕ) (b : Bytes) → list_any (is_in id) objects ≡ true → b ≡ module_bytes c objects id → Some (id, b) ≡ module_if_used c objects id
-listed_some c objects id b used is = rw (used, is) refl
-
-pub listed_none : (c : ℕ) (objects : List Placed) (id : ℕ) → list_any (is_in id) objects ≡ false → None ≡ module_if_used c objects id
-listed_none c objects id unused = rw unused refl
-
-pub all_ids : (c : ℕ) (t : Tree) (objects : List CodePlaced) (k last : ℕ) (layout : List (ℕ × Bytes)) → last ≡ greatest (map (λ o. o.«module») objects) → k ≡ last + 1
-    → layout ≡ filter_map (module_if_used c (map (view_placed t) objects)) (range_with_len 1 (k - 1)) → layout ≡ layout_of c (map (view_placed t) objects)
-all_ids c t objects k last layout el ek is =
-    let n : k - 1 ≡ greatest (map (λ o. o.module_id) (map (view_placed t) objects)) = rw ek (omega (arith, el, ap greatest (modules_seen t objects))) in
-    is ∙ ap (λ m. filter_map (module_if_used c (map (view_placed t) objects)) (range_with_len 1 m)) n

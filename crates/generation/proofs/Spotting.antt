@@ -1,6 +1,6 @@
 -- Objects that are named by an entry and a number of names, and the order of paths and of the first names of paths.
 use Rattle.std.proofs.Common.{◌≡◌, ◌≢◌, ℕ, zero, suc, ◌+◌, ◌<◌, ◌≤◌, ◌==◌, Bool, false, ◌&&◌, [], ◌∷◌, length, take, Some, None, refl, sym, ◌∙◌, ap, subst, add-one, arith, get_or, drop, length-take, min}
-use Rattle.generation.proofs.Words.{slice_get, All, eq-eqb, ne_eqb, false_from_ne_true, All-head, All-tail, get_or_from_slice_get, slice_get_within, same_Some, Bytes, PathNames, IsPath, IsName, name_cmp, path_cmp, same_path, Tree, is_a_file, Entry, path_at, bytes_at, last_of, view_spot, content_in, is_file_at, item_at, spot_at, IsSpotIn, get_or_default, and_parts, eqb-true, nat_cmp, ordering_then, Ordering, Less, Equal, Greater, cmp-ends, path_cmp-refl, same_path-is, CodeSpot}
+use Rattle.generation.proofs.Words.{drop_more, get_or-take, slice_get, All, false_from_ne_true, get_or_from_slice_get, slice_get_within, Bytes, PathNames, IsName, name_cmp, path_cmp, same_path, Tree, is_a_file, Entry, path_at, bytes_at, last_of, view_spot, content_in, is_file_at, item_at, spot_at, IsSpotIn, get_or_default, and_parts, eqb-true, nat_cmp, ordering_then, Ordering, Less, Equal, Greater, cmp-ends, path_cmp-refl, same_path-is, CodeSpot}
 use Rattle.path_tree.specs.declared.entry.Entry.TheVariants as entries
 
 -- an entry by its number
@@ -19,11 +19,6 @@ path_at_within [] i lt = absurd (omega (arith, lt))
 path_at_within (x ∷ xs) zero lt = omega arith
 path_at_within (x ∷ xs) (suc i) lt = omega (arith, path_at_within xs i lt)
 
-pub path_valid : (t : Tree) (i : ℕ) → All (λ e. IsPath e.0 × (e.0 ≢ [])) t → All IsName (path_at t i)
-path_valid [] i all = λ k d lt. absurd (omega (arith, lt))
-path_valid (e ∷ es) zero all = (All-head (λ e. IsPath e.0 × (e.0 ≢ [])) e es all).0.names
-path_valid (e ∷ es) (suc i) all = path_valid es i (All-tail (λ e. IsPath e.0 × (e.0 ≢ [])) e es all)
-
 -- ---- names of paths
 
 -- the last of the first names of a path that was lent
@@ -40,29 +35,18 @@ valid_lent q p j n same all e =
 abbrev pub one_spot : ℕ → ℕ → ℕ → ℕ → Bool → CodeSpot
 one_spot at depth number parent whole = record { entry = at; names = depth + 1; whole = whole; number = number; parent = Some parent }
 
--- whether it is the entry's file
-pub whole_ends : (t : Tree) (at depth n : ℕ) (file : Bool) (d : PathNames × Entry) → at < length t → n ≡ length d.0 → n ≡ depth + 1 → file ≡ is_a_file d.1 → d ≡ get_or t at d
-    → file ≡ ((length (path_at t at) == suc depth) && is_file_at t at)
-whole_ends t at depth n file d lt len is kind read =
-    let e : d ≡ item_at t at = read ∙ item_is t at d lt in
-    let long : length (path_at t at) ≡ suc depth = ap (λ (x : PathNames × Entry). length x.0) (sym e) ∙ (sym len ∙ (is ∙ add-one depth)) in
-    kind ∙ (ap (λ (x : PathNames × Entry). is_a_file x.1) e ∙ sym (ap (λ b. b && is_file_at t at) (eq-eqb _ (suc depth) long)))
-
-pub whole_goes_on : (t : Tree) (at depth n : ℕ) (d : PathNames × Entry) → at < length t → n ≡ length d.0 → (n ≡ depth + 1 → ⊥) → d ≡ get_or t at d
-    → (n == depth + 1) ≡ ((length (path_at t at) == suc depth) && is_file_at t at)
-whole_goes_on t at depth n d lt len not' read =
-    let e : d ≡ item_at t at = read ∙ item_is t at d lt in
-    ne_eqb n (depth + 1) not' ∙ sym (ap (λ b. b && is_file_at t at) (ne_eqb _ (suc depth) (λ long. not' (len ∙ (ap (λ (x : PathNames × Entry). length x.0) e ∙ (long ∙ sym (add-one depth)))))))
-
-pub spot_is : (t : Tree) (at depth number parent : ℕ) (whole : Bool) → whole ≡ ((length (path_at t at) == suc depth) && is_file_at t at) → view_spot t (one_spot at depth number parent whole) ≡ spot_at (item_at t at) depth number parent
-spot_is t at depth number parent whole e = rw (add-one depth, e) refl
-
-pub spot_valid : (t : Tree) (at depth number parent : ℕ) (whole : Bool) → at < length t → depth < length (path_at t at) → whole ≡ ((length (path_at t at) == suc depth) && is_file_at t at) → IsSpotIn t (one_spot at depth number parent whole)
-spot_valid t at depth number parent whole lt name e = record {
-  names = omega (arith, name);
-  whole = λ on. let h = and_parts (length (path_at t at) == suc depth) _ (sym e ∙ on) in (lt, add-one depth ∙ sym (eqb-true _ (suc depth) h.0), h.1);
-  named = λ folder e. omega arith;
-}
+-- it is the entry's file where the path has no more names and the entry is a file
+pub spot_is : (t : Tree) (at depth number parent : ℕ) (whole : Bool) (d : PathNames × Entry) → at < length t → d ≡ get_or t at d → depth < length (path_at t at) → whole ≡ ((length d.0 == depth + 1) && is_a_file d.1)
+    → IsSpotIn t (one_spot at depth number parent whole) × (view_spot t (one_spot at depth number parent whole) ≡ spot_at (item_at t at) depth number parent)
+spot_is t at depth number parent whole d lt read name is =
+    let e : whole ≡ ((length (path_at t at) == depth + 1) && is_file_at t at) = subst (λ (x : PathNames × Entry). whole ≡ ((length x.0 == depth + 1) && is_a_file x.1)) (read ∙ item_is t at d lt) is in (
+      record {
+        names = omega (arith, name);
+        whole = λ on. let h = and_parts (length (path_at t at) == depth + 1) (is_file_at t at) (sym e ∙ on) in (lt, sym (eqb-true _ (depth + 1) h.0), h.1);
+        named = λ folder p. omega arith;
+      },
+      rw (e, add-one depth) refl,
+    )
 
 -- the gateway is an object of any tree
 pub gateway_valid : (t : Tree) → IsSpotIn t (record { entry = 0; names = 0; whole = false; number = 0; parent = None })
@@ -79,26 +63,24 @@ less_differ a b e h = let s : path_cmp b b ≡ Less = subst (λ z. path_cmp z b 
 -- ---- first names
 
 cmp_at : (a b : PathNames) (d e i : ℕ) (m n : Bytes) → i < d → i < e → slice_get a i ≡ Some m → slice_get b i ≡ Some n
-    → path_cmp (drop i (take d a)) (drop i (take e b)) ≡ ordering_then (name_cmp m n) (path_cmp (drop (suc i) (take d a)) (drop (suc i) (take e b)))
-cmp_at [] b d e i m n ld le em en = cc
-cmp_at (x ∷ a) [] d e i m n ld le em en = cc
-cmp_at (x ∷ a) (y ∷ b) zero e i m n ld le em en = absurd (omega (arith, ld))
-cmp_at (x ∷ a) (y ∷ b) (suc d) zero i m n ld le em en = absurd (omega (arith, le))
-cmp_at (x ∷ a) (y ∷ b) (suc d) (suc e) zero m n ld le em en =
-    ap (λ z. ordering_then (name_cmp z y) (path_cmp (take d a) (take e b))) (same_Some x m em)
-    ∙ ap (λ z. ordering_then (name_cmp m z) (path_cmp (take d a) (take e b))) (same_Some y n en)
-cmp_at (x ∷ a) (y ∷ b) (suc d) (suc e) (suc i) m n ld le em en = cmp_at a b d e i m n (omega (arith, ld)) (omega (arith, le)) em en
+    → path_cmp (drop i (take d a)) (drop i (take e b)) ≡ ordering_then (name_cmp m n) (path_cmp (drop (i + 1) (take d a)) (drop (i + 1) (take e b)))
+cmp_at a b d e i m n ld le em en =
+    rw (
+      drop_more (take d a) i [] (omega (arith, length-take d a, slice_get_within a i m em, ld)),
+      drop_more (take e b) i [] (omega (arith, length-take e b, slice_get_within b i n en, le)),
+      get_or-take d a i [] ld,
+      get_or-take e b i [] le,
+      get_or_from_slice_get a i m [] em,
+      get_or_from_slice_get b i n [] en,
+    ) refl
 
 pub cmp_more : (a b : PathNames) (d e i : ℕ) (m n : Bytes) → i < d → i < e → slice_get a i ≡ Some m → slice_get b i ≡ Some n → name_cmp m n ≡ Equal
     → path_cmp (drop i (take d a)) (drop i (take e b)) ≡ path_cmp (drop (i + 1) (take d a)) (drop (i + 1) (take e b))
-cmp_more a b d e i m n ld le em en same =
-    cmp_at a b d e i m n ld le em en
-    ∙ (ap (λ o. ordering_then o (path_cmp (drop (suc i) (take d a)) (drop (suc i) (take e b)))) same
-    ∙ ap (λ j. path_cmp (drop j (take d a)) (drop j (take e b))) (sym (add-one i)))
+cmp_more a b d e i m n ld le em en same = cmp_at a b d e i m n ld le em en ∙ ap (λ o. ordering_then o (path_cmp (drop (i + 1) (take d a)) (drop (i + 1) (take e b)))) same
 
 pub cmp_decided : (a b : PathNames) (d e i : ℕ) (m n : Bytes) (o : Ordering) → i < d → i < e → slice_get a i ≡ Some m → slice_get b i ≡ Some n → name_cmp m n ≡ o → o ≢ Equal
     → path_cmp (drop i (take d a)) (drop i (take e b)) ≡ o
-cmp_decided a b d e i m n o ld le em en is ne = cmp_at a b d e i m n ld le em en ∙ (ap (λ p. ordering_then p (path_cmp (drop (suc i) (take d a)) (drop (suc i) (take e b)))) is ∙ decided o _ ne) where
+cmp_decided a b d e i m n o ld le em en is ne = cmp_at a b d e i m n ld le em en ∙ (ap (λ p. ordering_then p (path_cmp (drop (i + 1) (take d a)) (drop (i + 1) (take e b)))) is ∙ decided o _ ne) where
   decided : (o p : Ordering) → o ≢ Equal → ordering_then o p ≡ o
   decided Less p ne = refl
   decided Equal p ne = absurd (ne refl)

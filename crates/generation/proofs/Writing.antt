@@ -1,6 +1,6 @@
 -- What is written of a generation: bindings, modules, messages.
 use Rattle.std.proofs.Common.{◌≡◌, ℕ, zero, suc, ◌+◌, ◌-◌, ◌*◌, ◌%◌, ◌<◌, ◌≤◌, min, false, List, [], ◌∷◌, ◌++◌, length, take, drop, map, Option, Some, ◌==◌, refl, sym, subst, ◌∙◌, ap, arith, length-append, length-drop, Vec, Global, Result, inl, inr, lit≤}
-use Rattle.generation.proofs.Words.{All, flat_map, IfOk, cases_lt, cond_both, All-map, Bytes, DiiFields, dsi_spelling, dii_spelling, line_bytes, ModuleLine, Listed, key_in, placed_at, old_keys, taken_in, free_keys, fill_keys, keys_of, dii_lines, gateway_location, control_section, block_section, GenerationState, section_of, module_in, unwrap_or, length-map, take_min, drop_all, take_all, group_in, view_listed, IsRising, dii_transaction, Spot, Placed, count_in, Item}
+use Rattle.generation.proofs.Words.{All, flat_map, IfOk, cases_lt, cond_both, All-map, Bytes, DiiFields, dsi_spelling, dii_spelling, line_bytes, ModuleLine, key_in, placed_at, old_keys, taken_in, free_keys, fill_keys, keys_of, dii_lines, gateway_location, block_section, module_in, unwrap_or, length-map, take_min, drop_all, take_all, group_in, IsRising, dii_transaction, Spot, Placed, count_in, Listed, view_listed, control_section}
 use Rattle.ior_tap.specs.Iors as iors
 use Rattle.ddb_block.specs.Blocks as blocks
 use Rattle.dsmcc_section.specs.Sections as sections
@@ -60,14 +60,13 @@ gateway_written c ior e = subst (λ v. iors.IsWritten v (gateway_location c)) (s
 
 pub dsi_is : (c : ℕ) (payload : List ℕ) (ior : iors.Fields) (t : ℕ) → ior ≡ iors.written_form GATEWAY (gateway_location c) → t ≡ 0x80000000
     → payload ≡ dsi_spelling t ior.kind (gateway_location c) → payload ≡ dsi_spelling 0x80000000 GATEWAY (gateway_location c)
-dsi_is c payload ior t ei et e = e ∙ (ap (λ k. dsi_spelling t k (gateway_location c)) (ap (λ v. v.kind) ei) ∙ ap (λ u. dsi_spelling u GATEWAY (gateway_location c)) et)
+dsi_is c payload ior t ei et e = e ∙ (λ i. dsi_spelling (et i) (ei i).kind (gateway_location c))
 
 pub dii_is : (c g group t : ℕ) (counts : List ℕ) (layout : List (ℕ × Bytes)) (ms : List ModuleLine) (payload : List ℕ) → t ≡ dii_transaction g group → ms ≡ dii_lines counts layout
     → payload ≡ dii_spelling (record { download = c; block_size = BLOCK_SIZE; transaction = t; modules = ms })
     → payload ≡ dii_spelling (record { download = c; block_size = BLOCK_SIZE; transaction = dii_transaction g group; modules = dii_lines counts layout })
 dii_is c g group t counts layout ms payload et em e =
-    e ∙ (ap (λ u. dii_spelling (record { download = c; block_size = BLOCK_SIZE; transaction = u; modules = ms })) et
-    ∙ ap (λ ns. dii_spelling (record { download = c; block_size = BLOCK_SIZE; transaction = dii_transaction g group; modules = ns })) em)
+    e ∙ (λ i. dii_spelling (record { download = c; block_size = BLOCK_SIZE; transaction = et i; modules = em i }))
 
 pub dii_fits : (c g group : ℕ) (counts : List ℕ) (layout : List (ℕ × Bytes)) (payload : List ℕ) → IsRising layout → 1 ≤ group
     → payload ≡ dii_spelling (record { download = c; block_size = BLOCK_SIZE; transaction = dii_transaction g group; modules = dii_lines counts (group_in layout group) }) → length payload ≤ 4084
@@ -82,17 +81,6 @@ small_bytes [] id all = omega arith
 small_bytes (m ∷ ms) id all =
     cond_both (m.0 == id) (Some m.1) (module_in ms id) (λ o. length (unwrap_or o []) ≤ 268435456) (λ _. all 0 (0, []) (omega arith)) (λ _. small_bytes ms id (λ k e l. all (suc k) e (omega (arith, l))))
 
--- an item's section, seen through the fields
-pub section_arm : {E : Type 0} (r : Result (Vec ℕ Global) E) (inside g : GenerationState) (item known : Item) → inside ≡ g → item ≡ known
-    → IfOk r (λ v. v.items ≡ section_of inside known) → IfOk r (λ v. v.items ≡ section_of g item)
-section_arm r inside g item known eg ei is = subst (λ x. IfOk r (λ v. v.items ≡ section_of x item)) eg (subst (λ i. IfOk r (λ v. v.items ≡ section_of inside i)) (sym ei) is)
-
-pub block_arm : {E : Type 0} (r : Result (Vec ℕ Global) E) (c id block : ℕ) (n n' : ℕ) (bytes bytes' : List ℕ) → n' ≡ n → bytes' ≡ bytes
-    → IfOk r (λ v. v.items ≡ sections.spelling (block_section c id (n' % 256) block bytes')) → IfOk r (λ v. v.items ≡ sections.spelling (block_section c id (n % 256) block bytes))
-block_arm r c id block n n' bytes bytes' en eb is =
-    subst (λ k. IfOk r (λ v. v.items ≡ sections.spelling (block_section c id (k % 256) block bytes))) en
-    (subst (λ b. IfOk r (λ v. v.items ≡ sections.spelling (block_section c id (n' % 256) block b))) eb is)
-
 -- what is sent of listed modules, where they stand after a reference
 abbrev pub DiiSection : {E : Type 0} → Result (Vec ℕ Global) E → (carousel number group : ℕ) → List ℕ → List Listed → Type 0
 DiiSection r c g group counts modules = IfOk r (λ v. v.items ≡ sections.spelling (control_section (dii_transaction g group % 65536)
@@ -101,10 +89,3 @@ DiiSection r c g group counts modules = IfOk r (λ v. v.items ≡ sections.spell
 pub dii_arm : {E : Type 0} (r : Result (Vec ℕ Global) E) (c g group : ℕ) (counts counts' : List ℕ) (modules modules' : List Listed) → counts' ≡ counts → modules' ≡ modules
     → DiiSection r c g group counts' modules' → DiiSection r c g group counts modules
 dii_arm r c g group counts counts' modules modules' ec em is = subst (λ k. DiiSection r c g group k modules) ec (subst (λ m. DiiSection r c g group counts' m) em is)
-
-abbrev pub BlockSection : {E : Type 0} → Result (Vec ℕ Global) E → (carousel id block : ℕ) → List ℕ → List Listed → Type 0
-BlockSection r c id block counts modules = IfOk r (λ v. v.items ≡ sections.spelling (block_section c id (count_in counts id % 256) block (unwrap_or (module_in (map view_listed modules) id) [])))
-
-pub listed_arm : {E : Type 0} (r : Result (Vec ℕ Global) E) (c id block : ℕ) (counts counts' : List ℕ) (modules modules' : List Listed) → counts' ≡ counts → modules' ≡ modules
-    → BlockSection r c id block counts' modules' → BlockSection r c id block counts modules
-listed_arm r c id block counts counts' modules modules' ec em is = subst (λ k. BlockSection r c id block k modules) ec (subst (λ m. BlockSection r c id block counts' m) em is)

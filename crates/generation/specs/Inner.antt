@@ -1,6 +1,4 @@
 -- What private functions and invariants are stated in; no public contract names it.
-pub mod Grouped
-pub mod Halves
 pub mod Linking
 pub mod Merging
 pub mod Passing

@@ -167,10 +167,13 @@ old_modules old spots = map (λ s. module_of (placed_at old s)) spots
 abbrev pub modules_for : List Placed → Tree → List ℕ
 modules_for old t = kept_modules GREATEST_ID (zip (sizes_of t) (old_modules old (spots_of t)))
 
+-- the objects of a tree after those of another
+abbrev pub objects_after : List Placed → Tree → List Placed
+objects_after old t = placed_all (spots_of t) (keys_of old (spots_of t)) (modules_for old t)
+
 abbrev pub make_generation : ℕ → ℕ → Tree → List Placed → Layout → List ℕ → GenerationState
 make_generation carousel number t old before counts =
-    let spots = spots_of t in
-    let objects = placed_all spots (keys_of old spots) (modules_for old t) in
+    let objects = objects_after old t in
     let layout = layout_of carousel objects in
     record { carousel = carousel; number = number; tree = t; objects = objects; layout = layout; counts = counts_after before layout counts }
 

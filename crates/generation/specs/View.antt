@@ -1,5 +1,5 @@
 -- What a generation keeps, as one value.
-use Rattle.std.specs.Prelude.{◌≤◌, ◌<◌, ℕ, [], ◌∷◌, zero, suc, map, take, get_or, Some, None, cond, List}
+use Rattle.std.specs.Prelude.{◌≤◌, ◌<◌, ℕ, [], zero, suc, map, take, get_or, Some, None, cond, List}
 use Rattle.std.specs.List.{All, AllPairs}
 use Rattle.path_tree.specs.Paths.{Bytes, PathNames}
 use Rattle.path_tree.specs.Trees.{Tree}
@@ -9,6 +9,7 @@ use Rattle.biop_object.specs.Names.{Layout}
 use Rattle.generation.specs.Publication.{Spot as SpotFields}
 use Rattle.generation.specs.Layouts.{GenerationState, Placed as PlacedState}
 use Rattle.generation.specs.declared.spots.Spot.{Spot}
+use Rattle.generation.specs.declared.objects.Objects.{Objects}
 use Rattle.generation.specs.declared.objects.Placed.{Placed}
 use Rattle.generation.specs.declared.made.Listed.{Listed}
 use Rattle.generation.specs.declared.made.Generation.TheInside.{Inside}
@@ -49,6 +50,9 @@ view_placed t o = record { spot = view_spot t o.spot; key = o.key; module_id = o
 abbrev pub all_placed : Tree → List Placed → List PlacedState
 all_placed t objects = map (view_placed t) objects
 
+abbrev pub objects_in : Objects → List PlacedState
+objects_in o = all_placed o.tree o.all.items
+
 abbrev pub view_listed : Listed → ℕ × Bytes
 view_listed l = (l.id, l.bytes)
 
@@ -61,8 +65,8 @@ abbrev pub view_generation : Inside → GenerationState
 view_generation g = record {
   carousel = g.carousel;
   number = g.number;
-  tree = g.tree;
-  objects = map (view_placed g.tree) g.objects.items;
+  tree = g.objects.tree;
+  objects = objects_in g.objects;
   layout = map view_listed g.modules.items;
   counts = g.counts.items;
 }

@@ -1,16 +1,15 @@
 //! What objects had in the generation before: their keys and their modules.
 
-ghost use Rattle.std.specs.Prelude.{◌≡◌, ◌≢◌, None, Some, map, IfOk};
+ghost use Rattle.std.specs.Prelude.{◌≡◌, ◌≢◌, None, Some, map, drop, IfOk};
 ghost use Rattle.std.specs.List.{All, zip};
 ghost use Rattle.std.specs.Option.{option_map};
 ghost use Rattle.oc_bytes.specs.Outcome.{MakesList};
 ghost use Rattle.generation.specs.Publication.{AreRising};
-ghost use Rattle.generation.specs.Layouts.{old_keys, old_modules};
-ghost use Rattle.generation.specs.Inner.Merging.{from_path, first_same};
+ghost use Rattle.generation.specs.Layouts.{old_keys, old_modules, placed_at};
+ghost use Rattle.generation.specs.Inner.Merging.{AreLeft};
 ghost use Rattle.generation.specs.View.{view_spot, view_placed, all_placed};
 ghost use Rattle.generation.specs.Inner.View.{IsSpotIn};
-ghost use Rattle.module_packer.specs.Placement.{IsPlacement};
-ghost use Rattle.module_packer.specs.Kept.{AreObjects, kept_modules, sizes_in};
+ghost use Rattle.module_packer.specs.Kept.{AreObjects, kept_modules};
 ghost use Rattle.module_groups.specs.declared.TheConstants.{GREATEST_ID};
 
 use crate::objects::Placed;
@@ -50,41 +49,43 @@ pub(crate) fn former_of(
 {
     let mut keys = Vec::new(alloc);
     let mut modules = Vec::new(alloc);
-    let mut left = old;
+    let mut place = 0;
     for spot in spots {
-        let (object, from_here) = seek(left, old_tree, *spot, tree);
+        let (object, from_here) = seek(old, place, old_tree, *spot, tree);
         keys.push(key_in(object))?;
         modules.push(module_in(object))?;
-        left = from_here;
+        place = from_here;
     }
     Ok(Former { keys, modules })
 }
 
-/// The object of a spot's path and kind among objects in the order of paths, and those of them that don't come before
-/// that path.
-fn seek<'a>(
-    old: &'a [Placed],
+/// The object of a spot's path and kind among objects in the order of paths, from a place on, and the place of the first
+/// that doesn't come before that path.
+fn seek(
+    old: &[Placed],
+    from: usize,
     old_tree: &Tree,
     spot: Spot,
     tree: &Tree,
-) -> (Option<Placed>, &'a [Placed])
+) -> (Option<Placed>, usize)
     requires old { All (λ o. IsSpotIn old_tree.now o.spot) old.now }
+    requires rising { AreRising (map (λ o. o.spot) (all_placed old_tree.now old.now)) }
     requires spot { IsSpotIn tree.now spot }
     ensures object { option_map (view_placed old_tree.now) result.0
-        ≡ first_same (from_path (view_spot tree.now spot).path (all_placed old_tree.now old.now))
-        (view_spot tree.now spot) }
-    ensures left { all_placed old_tree.now result.1.now
-        ≡ from_path (view_spot tree.now spot).path (all_placed old_tree.now old.now) }
-    ensures valid { All (λ o. IsSpotIn old_tree.now o.spot) result.1.now }
+        ≡ placed_at (all_placed old_tree.now (drop from old.now)) (view_spot tree.now spot) }
+    ensures left { AreLeft (view_spot tree.now spot).path
+        (all_placed old_tree.now (drop from old.now))
+        (all_placed old_tree.now (drop result.1 old.now)) }
 {
-    for (passed, object) in old.iter().enumerate() {
+    for place in from..old.len() {
+        let object = old[place];
         match compare(old_tree, object.spot, tree, spot) {
             Ordering::Less => {}
-            Ordering::Equal => return (if_same_kind(*object, spot), &old[passed..]),
-            Ordering::Greater => return (None, &old[passed..]),
+            Ordering::Equal => return (if_same_kind(object, spot), place),
+            Ordering::Greater => return (None, place),
         }
     }
-    (None, &[])
+    (None, old.len())
 }
 
 /// The key of an object, if there is one.
@@ -120,9 +121,7 @@ pub(crate) fn modules(
     former: &[Option<u16>],
 ) -> Result<Vec<u16>, NoMemory>
     requires { AreObjects GREATEST_ID (zip sizes.now former.now) }
-    ensures kept { MakesList result (kept_modules GREATEST_ID (zip sizes.now former.now)) }
-    ensures fits { IfOk result (λ ms.
-        IsPlacement GREATEST_ID (sizes_in (zip sizes.now former.now)) ms.items) }
+    ensures { MakesList result (kept_modules GREATEST_ID (zip sizes.now former.now)) }
 {
     let objects = with_former(alloc, sizes, former)?;
     place(alloc, &objects)

@@ -1,10 +1,10 @@
 //! The modules of a group among those of a generation.
 
-ghost use Rattle.std.specs.Prelude.{◌≡◌, ◌≤◌, length, map, nat_lt};
+ghost use Rattle.std.specs.Prelude.{◌≡◌, ◌≤◌, true, false, length, map, nat_lt};
+ghost use Rattle.std.specs.List.Sorted.{IsPartitionPoint};
 ghost use Rattle.module_groups.specs.Groups as groups;
 ghost use Rattle.module_groups.specs.declared.TheConstants.{GROUP_SIZE, MOST_GROUPS};
 ghost use Rattle.generation.specs.Groups.{group_in};
-ghost use Rattle.generation.specs.Inner.Halves.{IsFirstOfGroup};
 ghost use Rattle.generation.specs.View.{IsRising, view_listed};
 
 use crate::made::Listed;
@@ -25,7 +25,9 @@ pub(crate) fn group_modules(modules: &[Listed], group: u16) -> &[Listed]
 /// The place of the first module that isn't of a lower group. It is found by halves.
 fn first_of_group(modules: &[Listed], group: u16) -> usize
     requires { IsRising (map view_listed modules.now) }
-    ensures { IsFirstOfGroup modules.now group result }
+    ensures within { result ≤ length modules.now }
+    ensures point { IsPartitionPoint (λ l. nat_lt (groups.group_of l.id) group ≡ true)
+        (λ l. nat_lt (groups.group_of l.id) group ≡ false) modules.now result }
 {
     modules.partition_point(
         |listed: &Listed| -> bool

@@ -10,7 +10,8 @@ ghost use Rattle.path_tree.specs.Trees.{Tree, IsTree};
 ghost use Rattle.generation.specs.View.{view_spot};
 ghost use Rattle.generation.specs.Inner.View.{IsSpotIn, AreSpotsOf, IsWeighed};
 
-use crate::spots::{Spot, content_of, name_of, path_of, spots};
+use crate::listing::spot_path;
+use crate::spots::{Spot, content_of, name_of, spots};
 use biop_object::{FILE_BINDING, FILE_FRONT, FOLDER_BINDING, FOLDER_FRONT, MOST_FOLDER_SIZE};
 use dsi_dii::MOST_TOTAL_SIZE;
 use module_groups::GREATEST_ID;
@@ -118,7 +119,7 @@ pub(crate) fn weigh(alloc: Global, tree: &Tree) -> Result<Weighed, Limit>
         return Err(Limit::TooManyObjects(u32::try_from(spots.len()).unwrap_or(u32::MAX)));
     }
     let sizes = sizes(alloc, tree, &spots)?;
-    check_folders(tree, &spots, &sizes)?;
+    check_folders(alloc, tree, &spots, &sizes)?;
     let total = total(&sizes);
     if total > u64::from(MOST_TOTAL_SIZE) {
         return Err(Limit::TooManyBytes(total));
@@ -171,7 +172,7 @@ fn first_large(spots: &[Spot], sizes: &[u32]) -> Option<u32>
 }
 
 /// Refuses the first folder that is too large.
-fn check_folders(tree: &Tree, spots: &[Spot], sizes: &[u32]) -> Result<(), Limit>
+fn check_folders(alloc: Global, tree: &Tree, spots: &[Spot], sizes: &[u32]) -> Result<(), Limit>
     requires spots { AreSpotsOf tree.now spots.now }
     requires sizes { sizes.now
         ≡ map (size_in (map (view_spot tree.now) spots.now)) (map (view_spot tree.now) spots.now) }
@@ -184,7 +185,7 @@ fn check_folders(tree: &Tree, spots: &[Spot], sizes: &[u32]) -> Result<(), Limit
     for (index, size) in sizes.iter().enumerate() {
         let spot = spots[index];
         if is_large(spot, *size) {
-            let path = front_of(tree, spot)?;
+            let path = spot_path(alloc, tree, spot)?;
             return Err(Limit::FolderTooLarge(path));
         }
     }
@@ -198,16 +199,6 @@ fn is_large(spot: Spot, size: u32) -> bool
         → result ≡ is_large_folder spots (view_spot t spot) }
 {
     !spot.whole && size > MOST_FOLDER_SIZE
-}
-
-/// The path of an object. That of the gateway is a prefix of any entry's path.
-fn front_of(tree: &Tree, spot: Spot) -> Result<Path, NoMemory>
-    requires some { 0 < length tree.now }
-    requires valid { IsSpotIn tree.now spot }
-    ensures { IfOk result (λ p. p ≡ (view_spot tree.now spot).path) }
-{
-    let entry = if spot.names == 0 { 0 } else { spot.entry };
-    path_of(tree, entry).above(spot.names)
 }
 
 /// The sizes of a tree's objects, in their order: each object adds its binding to the folder that it stands in.
@@ -229,7 +220,8 @@ fn sizes(alloc: Global, tree: &Tree, spots: &[Spot]) -> Result<Vec<u32>, NoMemor
 /// The sizes of a tree's objects without bindings.
 fn own_sizes(alloc: Global, tree: &Tree, spots: &[Spot]) -> Result<Vec<u32>, NoMemory>
     requires { All (IsSpotIn tree.now) spots.now }
-    ensures { MakesList result (map (size_in []) (map (view_spot tree.now) spots.now)) }
+    ensures sizes { MakesList result (map (size_in []) (map (view_spot tree.now) spots.now)) }
+    ensures small { IfOk result (λ v. All (λ n. n ≤ 16777260) v.items) }
 {
     let mut sizes = Vec::with_capacity(alloc, spots.len())?;
     for spot in spots {
@@ -241,7 +233,8 @@ fn own_sizes(alloc: Global, tree: &Tree, spots: &[Spot]) -> Result<Vec<u32>, NoM
 /// How many bytes an object has without bindings.
 fn own_size(tree: &Tree, spot: Spot) -> u32
     requires { IsSpotIn tree.now spot }
-    ensures { result ≡ size_in [] (view_spot tree.now spot) }
+    ensures size { result ≡ size_in [] (view_spot tree.now spot) }
+    ensures small { result ≤ 16777260 }
 {
     if spot.whole {
         FILE_FRONT + content_of(tree, spot.entry).len() as u32

@@ -1,32 +1,48 @@
 //! Objects in groups, each group in the objects' order.
-ghost use Rattle.std.specs.Prelude.{◌≡◌, ◌<◌, ◌++◌, ◌∷◌, [], length, map, get_or, nat_lt, slice_set, IfOk, OnOk};
+ghost use Rattle.std.specs.Prelude.{◌≡◌, ◌<◌, ◌++◌, ◌∷◌, [], length, map, get_or, slice_set, IfOk, OnOk};
 ghost use Rattle.std.specs.List.{All};
-ghost use Rattle.oc_bytes.specs.Outcome.{MakesList};
-ghost use Rattle.generation.specs.Inner.Linking.{AreMembers, IsBelow};
+ghost use Rattle.generation.specs.Inner.Linking.{AreMembers, IsBelow, group_by};
 
 use crate::objects::Placed;
 use oc_bytes::NoMemory;
 use std::alloc::Global;
 
-/// Under each group's number the objects that are in it, where each object has the group that is listed at its place, or
-/// none. There are `count` groups. It is one pass. The only refusal is out of memory.
+/// What puts objects into groups.
+#[derive(Clone, Copy, Debug, PartialEq, Eq)]
+pub(crate) enum By {
+    /// The number of the folder that an object stands in.
+    Folder,
+    /// The id of the module that it lies in.
+    Module,
+}
+
+/// Under each group's number the objects that are in it. There are `count` groups. It is one pass. The only refusal is out of memory.
 pub(crate) fn gather(
     alloc: Global,
+    by: By,
     objects: &[Placed],
-    groups: &[Option<usize>],
     count: usize,
 ) -> Result<Vec<Vec<Placed>>, NoMemory>
-    requires below { All (IsBelow count) groups.now }
-    requires many { length objects.now ≡ length groups.now }
-    ensures { IfOk result (λ v. AreMembers groups.now objects.now (map (λ m. m.items) v.items)) }
+    requires { All (λ o. IsBelow count (group_by by o)) objects.now }
+    ensures { IfOk result (λ v. AreMembers by objects.now v.items) }
 {
     let mut lists = none_in(alloc, count)?;
-    for place in 0..groups.len() {
-        if let Some(group) = groups[place] {
-            put(&mut lists, group, objects[place])?;
+    for object in objects {
+        if let Some(group) = group_of(by, *object) {
+            put(&mut lists, group, *object)?;
         }
     }
     Ok(lists)
+}
+
+/// The group that an object is in.
+fn group_of(by: By, object: Placed) -> Option<usize>
+    ensures { result ≡ group_by by object }
+{
+    match by {
+        By::Folder => object.spot.parent,
+        By::Module => Some(usize::from(object.module)),
+    }
 }
 
 /// So many groups without members.
@@ -62,11 +78,4 @@ pub(crate) fn members_of(lists: &[Vec<Placed>], group: usize) -> &[Placed]
     } else {
         &[]
     }
-}
-
-/// Whether a group has a member.
-pub(crate) fn has_members(lists: &[Vec<Placed>], group: usize) -> bool
-    ensures { result ≡ nat_lt 0 (length (get_or (map (λ m. m.items) lists.now) group [])) }
-{
-    members_of(lists, group).len() > 0
 }

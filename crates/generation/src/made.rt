@@ -7,30 +7,29 @@ ghost use Rattle.path_tree.specs.Trees.{Tree};
 ghost use Rattle.biop_object.specs.Names.{Layout, module_in};
 ghost use Rattle.cycle_planner.specs.Cycle.{AreLines};
 ghost use Rattle.dsmcc_section.specs.Sections.{IsFramed};
-ghost use Rattle.generation.specs.Layouts.{GenerationState, first_of, next_of, lines_of, lines_in, items_of, section_of, count_in as count_at, ids_counted as ids, counts_after, one_if_changed, layout_of, module_if_used, greatest, placed_all, keys_of, modules_for};
+ghost use Rattle.generation.specs.Layouts.{GenerationState, first_of, next_of, lines_of, lines_in, items_of, section_of, count_in as count_at, ids_counted as ids, counts_after, one_if_changed, layout_of, module_if_used, objects_after};
 ghost use Rattle.generation.specs.Kept.{StandsFor};
-ghost use Rattle.generation.specs.Publication.{limit_of, spots_of};
+ghost use Rattle.generation.specs.Publication.{limit_of};
 ghost use Rattle.generation.specs.Objects.{object_of};
 ghost use Rattle.generation.specs.Inner.Stays.{AreAsBefore, AreTheirs};
-ghost use Rattle.generation.specs.Inner.Grouped.{AreGrouped};
-ghost use Rattle.generation.specs.View.{view_listed, IsRising, all_placed};
+ghost use Rattle.generation.specs.View.{view_listed, IsRising, all_placed, objects_in};
 ghost use Rattle.generation.specs.Inner.View.{IsWeighed, AreReady, AreOld, IsMarked, AreMarked, IsSpotIn};
 ghost use Rattle.dsi_dii.specs.declared.TheConstants.{LAST_GENERATION, MOST_TOTAL_SIZE};
-ghost use Rattle.module_groups.specs.declared.TheConstants.{GREATEST_ID};
 
 use crate::control::{block_of_module, dii_section, dsi_section};
 use crate::former::{former_of, modules};
 use crate::keys::keys;
 use crate::limit::{Publishable, Weighed, measure};
-use crate::links::has_members;
+use crate::links::{By, gather};
 use crate::listing::{Object, list_objects};
-use crate::objects::{Grouped, Placed, group_all, module_bytes, place_all};
+use crate::objects::{Objects, Placed, last_module, module_bytes, place_all};
 use crate::spots::{Spot, is_equal};
 use crate::unchanged::{modules_that_stay, named_entries};
 use biop_object::Module;
 use carousel_profile::BLOCK_SIZE;
 use cycle_planner::Item;
 use ddb_block::block_count;
+use module_packer::kept_is_a_placement;
 use oc_bytes::{Blob, NoMemory};
 use path_tree::{Edit, Tree};
 use std::alloc::Global;
@@ -54,8 +53,7 @@ pub struct Generation {
     alloc: Global,
     carousel: u32,
     number: u64,
-    tree: Tree,
-    objects: Vec<Placed>,
+    objects: Objects,
     modules: Vec<Listed>,
     lines: Vec<(u16, u32)>,
     counts: Vec<u64>,
@@ -91,14 +89,13 @@ impl Generation {
             module: 1,
         };
         let weighed = measure(alloc, &tree)?;
-        let objects = objects_after(alloc, &[gateway], &tree, &tree, &weighed)?;
-        let modules = modules_of(alloc, carousel, &tree, &objects, &[], &[])?;
+        let objects = place_tree(alloc, &[gateway], &Tree::empty(alloc), tree, &weighed)?;
+        let modules = modules_of(alloc, carousel, &objects, &[], &[])?;
         let lines = lines_of_modules(alloc, &modules)?;
         Ok(Generation {
             alloc,
             carousel,
             number: 0,
-            tree,
             objects,
             modules,
             lines,
@@ -162,30 +159,16 @@ impl Generation {
             (trees : List Tree) → StandsFor self.now trees → StandsFor g (trees ++ tree ∷ [])) }
         ensures exact { IfOk result (λ g. g ≡ next_of self.now tree) }
     {
-        let objects = objects_after(self.alloc, &self.objects, &self.tree, &tree, weighed)?;
-        let staying = modules_that_stay(
-            self.alloc,
-            &self.objects,
-            &self.tree,
-            &objects,
-            &tree,
-            flags,
-        )?;
-        let modules = modules_of(
-            self.alloc,
-            self.carousel,
-            &tree,
-            &objects,
-            &self.modules,
-            &staying,
-        )?;
+        let before = &self.objects;
+        let objects = place_tree(self.alloc, &before.all, &before.tree, tree, weighed)?;
+        let staying = modules_that_stay(self.alloc, before, &objects, flags)?;
+        let modules = modules_of(self.alloc, self.carousel, &objects, &self.modules, &staying)?;
         let counts = counts_next(self.alloc, &modules, &self.counts)?;
         let lines = lines_of_modules(self.alloc, &modules)?;
         Ok(Generation {
             alloc: self.alloc,
             carousel: self.carousel,
             number: self.number + 1,
-            tree,
             objects,
             modules,
             lines,
@@ -204,14 +187,14 @@ impl Generation {
     pub fn tree(&self) -> &Tree
         ensures { result.now ≡ self.now.tree }
     {
-        &self.tree
+        &self.objects.tree
     }
 
     /// The objects in the order of paths, each with the module that it lies in. The only refusal is out of memory.
     pub fn objects(&self) -> Result<Vec<Object>, NoMemory>
         ensures { MakesList result (map object_of self.now.objects) }
     {
-        list_objects(self.alloc, &self.tree, &self.objects)
+        list_objects(self.alloc, &self.objects.tree, &self.objects.all)
     }
 
     /// The modules' ids, from 1 to [`module_groups::GREATEST_ID`] and rising, each with its number of
@@ -285,32 +268,36 @@ impl Generation {
     }
 }
 
-/// The objects of a tree, with their keys and modules after those of another tree.
-fn objects_after(
+/// A tree with its objects, whose keys and modules are those after the objects of another tree.
+fn place_tree(
     alloc: Global,
     old: &[Placed],
     old_tree: &Tree,
-    tree: &Tree,
+    tree: Tree,
     weighed: &Weighed,
-) -> Result<Vec<Placed>, NoMemory>
-    requires tree { limit_of tree.now ≡ None }
-    requires weighed { IsWeighed tree.now weighed.now }
+) -> Result<Objects, NoMemory>
+    requires tree { limit_of tree ≡ None }
+    requires weighed { IsWeighed tree weighed.now }
     requires spots { All (λ o. IsSpotIn old_tree.now o.spot) old.now }
     requires old { AreOld (all_placed old_tree.now old.now) }
-    ensures objects { IfOk result (λ v.
-        all_placed tree.now v.items
-        ≡ placed_all (spots_of tree.now)
-        (keys_of (all_placed old_tree.now old.now) (spots_of tree.now))
-        (modules_for (all_placed old_tree.now old.now) tree.now)) }
-    ensures ready { IfOk result (λ v. (carousel : ℕ) → AreReady carousel tree.now v.items) }
-    ensures old { IfOk result (λ v. AreOld (all_placed tree.now v.items)) }
-    ensures lines { IfOk result (λ v.
-        (carousel : ℕ) → AreLines (lines_in (layout_of carousel (all_placed tree.now v.items)))) }
+    ensures tree { IfOk result (λ o. o.tree ≡ tree) }
+    ensures objects { IfOk result (λ o.
+        objects_in o ≡ objects_after (all_placed old_tree.now old.now) tree) }
+    ensures ready { IfOk result AreReady }
 {
-    let former = former_of(alloc, old, old_tree, &weighed.spots, tree)?;
-    let modules = modules(alloc, &weighed.sizes, &former.modules)?;
+    kept_is_a_placement();
+    let former = former_of(alloc, old, old_tree, &weighed.spots, &tree)?;
+    let ids = modules(alloc, &weighed.sizes, &former.modules)?;
     let keys = keys(alloc, &former.keys)?;
-    place_all(alloc, &weighed.spots, &keys, &modules)
+    let all = place_all(alloc, &weighed.spots, &keys, &ids)?;
+    let folders = gather(alloc, By::Folder, &all, all.len())?;
+    let modules = gather(alloc, By::Module, &all, usize::from(last_module(&all)) + 1)?;
+    Ok(Objects {
+        tree,
+        all,
+        folders,
+        modules,
+    })
 }
 
 /// The modules of objects, each shared with the one of its id before where that has the same bytes. A module whose flag
@@ -318,63 +305,49 @@ fn objects_after(
 fn modules_of(
     alloc: Global,
     carousel: u32,
-    tree: &Tree,
-    objects: &[Placed],
+    objects: &Objects,
     before: &[Listed],
     staying: &[bool],
 ) -> Result<Vec<Listed>, NoMemory>
-    requires ready { AreReady carousel tree.now objects.now }
+    requires ready { AreReady objects.now }
     requires before { IsRising (map view_listed before.now) }
-    requires staying { AreTheirs carousel (all_placed tree.now objects.now)
+    requires staying { AreTheirs carousel (objects_in objects.now)
         (map view_listed before.now) staying.now }
     ensures layout { IfOk result (λ v.
-        map view_listed v.items ≡ layout_of carousel (all_placed tree.now objects.now)) }
+        map view_listed v.items ≡ layout_of carousel (objects_in objects.now)) }
     ensures stays { IfOk result (λ v. AreMarked (map view_listed before.now) v.items) }
+    ensures rising { IfOk result (λ v. IsRising (map view_listed v.items)) }
+    ensures sizes { IfOk result (λ v.
+        All (λ m. length m.1 ≤ MOST_TOTAL_SIZE) (map view_listed v.items)) }
+    ensures lines { IfOk result (λ v. AreLines (lines_in (map view_listed v.items))) }
 {
-    let grouped = group_all(alloc, objects)?;
     let mut modules = Vec::new(alloc);
-    for id in 1..last_module(objects) + 1 {
-        if let Some(listed) = listed_at(
-            alloc, carousel, tree, objects, &grouped, before, staying, id,
-        )? {
+    for below in 0..last_module(&objects.all) {
+        if let Some(listed) = listed_at(alloc, carousel, objects, before, staying, below + 1)? {
             modules.push(listed)?;
         }
     }
     Ok(modules)
 }
 
-/// The greatest id of a module in which an object lies.
-pub(crate) fn last_module(objects: &[Placed]) -> u16
-    ensures { result ≡ greatest (map (λ o. o.module) objects.now) }
-{
-    let mut last = 0;
-    for object in objects {
-        last = object.module.max(last);
-    }
-    last
-}
-
 /// The module of an id, where an object lies in it.
 fn listed_at(
     alloc: Global,
     carousel: u32,
-    tree: &Tree,
-    objects: &[Placed],
-    grouped: &Grouped,
+    objects: &Objects,
     before: &[Listed],
     staying: &[bool],
     id: u16,
 ) -> Result<Option<Listed>, NoMemory>
-    requires ready { AreReady carousel tree.now objects.now }
-    requires grouped { AreGrouped objects.now grouped.now }
+    requires ready { AreReady objects.now }
     requires before { IsRising (map view_listed before.now) }
-    requires staying { AreTheirs carousel (all_placed tree.now objects.now)
+    requires staying { AreTheirs carousel (objects_in objects.now)
         (map view_listed before.now) staying.now }
     ensures listed { IfOk result (λ l.
-        option_map view_listed l ≡ module_if_used carousel (all_placed tree.now objects.now) id) }
+        option_map view_listed l ≡ module_if_used carousel (objects_in objects.now) id) }
     ensures stays { IfOk result (λ l. IfSome l (IsMarked (map view_listed before.now))) }
 {
-    if !has_members(&grouped.modules, usize::from(id)) {
+    if objects.in_module(id).is_empty() {
         return Ok(None);
     }
     if let Some(bytes) = staying_module(before, staying, id) {
@@ -384,7 +357,7 @@ fn listed_at(
             stays: true,
         }));
     }
-    let bytes = module_bytes(alloc, carousel, tree, objects, grouped, id)?;
+    let bytes = module_bytes(alloc, carousel, objects, id)?;
     Ok(Some(module_after(alloc, before, id, bytes)?))
 }
 

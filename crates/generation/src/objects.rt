@@ -1,18 +1,17 @@
 //! The objects with their keys and modules, and their bytes.
 ghost use Rattle.std.specs.Prelude.{◌≡◌, ◌≤◌, ◌<◌, ◌++◌, length, map, IfOk, OnOk, false};
-ghost use Rattle.std.specs.List.{All};
+ghost use Rattle.std.specs.List.{All, filter};
 ghost use Rattle.oc_bytes.specs.Outcome.{MakesList};
 ghost use Rattle.path_tree.specs.Trees.{IsTree};
-ghost use Rattle.generation.specs.Inner.Grouped.{AreGrouped};
-ghost use Rattle.generation.specs.Inner.Linking.{AreMembers};
-ghost use Rattle.generation.specs.Layouts.{location_of, entries_of, object_bytes as bytes_of, module_bytes as bytes_in, key_bytes, bound_of};
-ghost use Rattle.generation.specs.View.{view_spot, view_placed, all_placed};
-ghost use Rattle.generation.specs.Inner.View.{IsId, IsSpotIn, placed_from, AreFoldered, AreReady, kind_in};
+ghost use Rattle.generation.specs.Layouts.{location_of, entries_of, object_bytes as bytes_of, module_bytes as bytes_in, key_bytes, bound_of, greatest};
+ghost use Rattle.generation.specs.Inner.Linking.{is_of};
+ghost use Rattle.generation.specs.declared.links.By.TheVariants.{Folder, Module};
+ghost use Rattle.generation.specs.View.{view_spot, view_placed, objects_in};
+ghost use Rattle.generation.specs.Inner.View.{IsId, IsSpotIn, placed_from, AreReady, kind_in};
 ghost use Rattle.biop_object.specs.Objects.{folder_spelling, IsEntry};
 ghost use Rattle.biop_object.specs.declared.written.TheConstants.{MOST_FOLDER_SIZE};
 
-use crate::links::{gather, members_of};
-use crate::made::last_module;
+use crate::links::members_of;
 use crate::spots::{Spot, content_of, name_of};
 use biop_object::{Bound, FolderKind, ObjectFault, Written, encode_file, encode_folder};
 use ior_tap::{Key, Location};
@@ -58,75 +57,59 @@ fn key_of(alloc: Global, key: u32) -> Result<Key, NoMemory>
     Ok(Key::new(bytes))
 }
 
-/// Objects by the folder that each stands in, and by the module that each lies in.
+/// A tree with its objects, and these by the folder that each stands in and by the module that each lies in.
 #[derive(Drop)]
-pub(crate) struct Grouped {
+pub(crate) struct Objects {
+    pub(crate) tree: Tree,
+    pub(crate) all: Vec<Placed>,
     pub(crate) folders: Vec<Vec<Placed>>,
     pub(crate) modules: Vec<Vec<Placed>>,
 }
 
-/// Puts each object to its folder and to its module, in one pass for each.
-pub(crate) fn group_all(alloc: Global, objects: &[Placed]) -> Result<Grouped, NoMemory>
-    requires { AreFoldered objects.now }
-    ensures { IfOk result (AreGrouped objects.now) }
-{
-    let numbers = folders(alloc, objects)?;
-    let folders = gather(alloc, objects, &numbers, objects.len())?;
-    let modules = by_module(alloc, objects)?;
-    Ok(Grouped { folders, modules })
+impl Objects {
+    /// The objects that stand right in the folder of a number.
+    fn in_folder(&self, number: usize) -> &[Placed]
+        requires { AreReady self.now }
+        ensures { result.now ≡ filter (is_of Folder number) self.now.all.items }
+    {
+        members_of(&self.folders, number)
+    }
+
+    /// The objects that lie in a module.
+    pub(crate) fn in_module(&self, id: u16) -> &[Placed]
+        requires { AreReady self.now }
+        ensures { result.now ≡ filter (is_of Module id) self.now.all.items }
+    {
+        members_of(&self.modules, usize::from(id))
+    }
 }
 
-/// Objects by the module that each lies in.
-pub(crate) fn by_module(alloc: Global, objects: &[Placed]) -> Result<Vec<Vec<Placed>>, NoMemory>
-    ensures { IfOk result (λ v. AreMembers (map (λ o. Some o.module) objects.now) objects.now
-        (map (λ m. m.items) v.items)) }
+/// The greatest id of a module in which an object lies.
+pub(crate) fn last_module(objects: &[Placed]) -> u16
+    ensures { result ≡ greatest (map (λ o. o.module) objects.now) }
 {
-    let ids = module_ids(alloc, objects)?;
-    gather(alloc, objects, &ids, usize::from(last_module(objects)) + 1)
-}
-
-/// The id of the module of each object.
-fn module_ids(alloc: Global, objects: &[Placed]) -> Result<Vec<Option<usize>>, NoMemory>
-    ensures { MakesList result (map (λ o. Some o.module) objects.now) }
-{
-    objects
-        .iter()
-        .map(|object| Some(usize::from(object.module)))
-        .collect(alloc)
-}
-
-/// The folder that each object stands in, by number.
-fn folders(alloc: Global, objects: &[Placed]) -> Result<Vec<Option<usize>>, NoMemory>
-    ensures { MakesList result (map (λ o. o.spot.parent) objects.now) }
-{
-    objects
-        .iter()
-        .map(|object| object.spot.parent)
-        .collect(alloc)
+    let mut last = 0;
+    for object in objects {
+        last = object.module.max(last);
+    }
+    last
 }
 
 /// The bindings of the folder of a number: the objects that stand right in it.
 fn entries(
     alloc: Global,
     carousel: u32,
-    tree: &Tree,
-    objects: &[Placed],
-    children: &[Vec<Placed>],
+    objects: &Objects,
     folder: usize,
 ) -> Result<Vec<Written>, NoMemory>
-    requires tree { IsTree tree.now }
-    requires objects { All (λ o. IsSpotIn tree.now o.spot) objects.now }
-    requires children { AreMembers (map (λ o. o.spot.parent) objects.now) objects.now
-        (map (λ m. m.items) children.now) }
-    requires listed { All (λ o. IsId o.«module») objects.now }
+    requires { AreReady objects.now }
     ensures valid { IfOk result (λ v. All IsEntry v.items) }
-    ensures entries { MakesList result
-        (entries_of carousel (all_placed tree.now objects.now) folder) }
+    ensures entries { MakesList result (entries_of carousel (objects_in objects.now) folder) }
 {
-    let members = members_of(children, folder);
+    let members = objects.in_folder(folder);
     let mut entries = Vec::new(alloc);
     for child in members {
-        entries.push(written(alloc, carousel, tree, *child)?)?;
+        entries.push(written(alloc, carousel, &objects.tree, *child)?)?;
     }
     Ok(entries)
 }
@@ -170,28 +153,22 @@ fn written(alloc: Global, carousel: u32, tree: &Tree, object: Placed) -> Result<
 fn object_bytes(
     alloc: Global,
     carousel: u32,
-    tree: &Tree,
-    objects: &[Placed],
-    children: &[Vec<Placed>],
+    objects: &Objects,
     object: Placed,
 ) -> Result<Vec<u8>, NoMemory>
-    requires tree { IsTree tree.now }
-    requires objects { All (λ o. IsSpotIn tree.now o.spot) objects.now }
-    requires children { AreMembers (map (λ o. o.spot.parent) objects.now) objects.now
-        (map (λ m. m.items) children.now) }
-    requires object { IsSpotIn tree.now object.spot }
-    requires listed { All (λ o. IsId o.«module») objects.now }
+    requires ready { AreReady objects.now }
+    requires object { IsSpotIn objects.now.tree object.spot }
     requires small { object.spot.whole ≡ false
-        → length (bytes_of carousel (all_placed tree.now objects.now) (view_placed tree.now object))
-        ≤ MOST_FOLDER_SIZE }
+        → length (bytes_of carousel (objects_in objects.now)
+        (view_placed objects.now.tree object)) ≤ MOST_FOLDER_SIZE }
     ensures { MakesList result
-        (bytes_of carousel (all_placed tree.now objects.now) (view_placed tree.now object)) }
+        (bytes_of carousel (objects_in objects.now) (view_placed objects.now.tree object)) }
 {
     let key = key_of(alloc, object.key)?;
     if object.spot.whole {
-        return encode_file(alloc, &key, content_of(tree, object.spot.entry));
+        return encode_file(alloc, &key, content_of(&objects.tree, object.spot.entry));
     }
-    let entries = entries(alloc, carousel, tree, objects, children, object.spot.number)?;
+    let entries = entries(alloc, carousel, objects, object.spot.number)?;
     folder_bytes(alloc, object.spot.names, &key, &entries)
 }
 
@@ -224,22 +201,16 @@ fn folder_bytes(
 pub(crate) fn module_bytes(
     alloc: Global,
     carousel: u32,
-    tree: &Tree,
-    objects: &[Placed],
-    grouped: &Grouped,
+    objects: &Objects,
     id: u16,
 ) -> Result<Vec<u8>, NoMemory>
-    requires ready { AreReady carousel tree.now objects.now }
-    requires grouped { AreGrouped objects.now grouped.now }
-    ensures { MakesList result (bytes_in carousel (all_placed tree.now objects.now) id) }
+    requires { AreReady objects.now }
+    ensures { MakesList result (bytes_in carousel (objects_in objects.now) id) }
 {
-    let members = members_of(&grouped.modules, usize::from(id));
+    let members = objects.in_module(id);
     let mut bytes = Vec::new(alloc);
     for object in members {
-        append(
-            &mut bytes,
-            object_bytes(alloc, carousel, tree, objects, &grouped.folders, *object)?,
-        )?;
+        append(&mut bytes, object_bytes(alloc, carousel, objects, *object)?)?;
     }
     Ok(bytes)
 }

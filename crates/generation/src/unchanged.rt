@@ -4,15 +4,12 @@ ghost use Rattle.std.specs.Prelude.{◌≡◌, ◌≤◌, ◌<◌, ◌++◌, Lis
 ghost use Rattle.std.specs.List.{All};
 ghost use Rattle.path_tree.specs.Edits.{apply_all};
 ghost use Rattle.path_tree.specs.Trees.{Tree as TreeFiles, IsTree};
-ghost use Rattle.generation.specs.Layouts.{Placed as PlacedState, greatest, object_bytes};
+ghost use Rattle.generation.specs.Layouts.{Placed as PlacedState, object_bytes};
 ghost use Rattle.generation.specs.Inner.Stays.{AreAsBefore, SameModules, bytes_of_all};
-ghost use Rattle.generation.specs.View.{view_placed, all_placed};
-ghost use Rattle.generation.specs.Inner.View.{IsSpotIn};
-ghost use Rattle.module_groups.specs.declared.TheConstants.{GREATEST_ID};
+ghost use Rattle.generation.specs.View.{view_placed, objects_in};
+ghost use Rattle.generation.specs.Inner.View.{IsSpotIn, AreReady};
 
-use crate::links::members_of;
-use crate::made::last_module;
-use crate::objects::{Placed, by_module};
+use crate::objects::{Objects, Placed, last_module};
 use crate::spots::compare;
 use oc_bytes::NoMemory;
 use path_tree::{Edit, Tree, others_stay};
@@ -42,28 +39,21 @@ pub(crate) fn named_entries(
 /// Of each module's id, whether the module has the same objects as before, all of them files that are as before.
 pub(crate) fn modules_that_stay(
     alloc: Global,
-    old: &[Placed],
-    old_tree: &Tree,
-    objects: &[Placed],
-    tree: &Tree,
+    old: &Objects,
+    objects: &Objects,
     named: &[bool],
 ) -> Result<Vec<bool>, NoMemory>
-    requires old_tree { IsTree old_tree.now }
-    requires tree { IsTree tree.now }
-    requires old { All (λ o. IsSpotIn old_tree.now o.spot) old.now }
-    requires objects { All (λ o. IsSpotIn tree.now o.spot) objects.now }
-    requires numbers { greatest (map (λ o. o.«module») objects.now) ≤ GREATEST_ID }
-    requires named { AreAsBefore old_tree.now tree.now named.now }
+    requires old { AreReady old.now }
+    requires objects { AreReady objects.now }
+    requires named { AreAsBefore old.now.tree objects.now.tree named.now }
     ensures { IfOk result (λ v.
-        SameModules (all_placed old_tree.now old.now) (all_placed tree.now objects.now) v.items) }
+        SameModules (objects_in old.now) (objects_in objects.now) v.items) }
 {
-    let old_members = by_module(alloc, old)?;
-    let members = by_module(alloc, objects)?;
     let mut staying = Vec::new(alloc);
-    for id in 0..last_module(objects) + 1 {
-        let before = members_of(&old_members, usize::from(id));
-        let after = members_of(&members, usize::from(id));
-        staying.push(are_same_files(old_tree, before, tree, after, named))?;
+    for id in 0..last_module(&objects.all) + 1 {
+        let before = old.in_module(id);
+        let after = objects.in_module(id);
+        staying.push(are_same_files(&old.tree, before, &objects.tree, after, named))?;
     }
     Ok(staying)
 }

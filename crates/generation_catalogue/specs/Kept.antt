@@ -1,4 +1,4 @@
--- What is kept beside the entries follows from them.
+-- What the code keeps of a catalogue, as its state.
 use Rattle.generation_catalogue.specs.History.{CatalogueState}
 use Rattle.generation_catalogue.specs.declared.journal.Journal.TheInside.{Inside}
 

@@ -1,5 +1,5 @@
 -- Lists that are filtered, counted and put together, and what stands in them.
-use Rattle.history_merge.proofs.Words.{◌≡◌, ℕ, suc, ◌+◌, Bool, true, false, cond, List, [], ◌∷◌, ◌++◌, length, filter, Some, slice_get, ap, refl, arith, count_by, sum_by-append, Each}
+use Rattle.history_merge.proofs.Words.{◌≡◌, ℕ, suc, Bool, true, false, cond, List, [], ◌∷◌, ◌++◌, length, filter, Some, slice_get, ap, refl, arith, count_by, sum_by-append, Each}
 
 module _ {A : Type 0} where
   pub filter_takes : (p : A → Bool) (x : A) (xs : List A) → p x ≡ true → filter p (x ∷ xs) ≡ x ∷ filter p xs

@@ -1,11 +1,11 @@
 -- Where the opens of one reader stand in a merge, and that each merge of a session owes what it should.
-use Rattle.history_merge.proofs.Words.{◌≡◌, ℕ, ◌<◌, List, [], ◌∷◌, length, map, get_or, sym, ap, ◌∙◌, refl, subst, arith, eq-eqb, ne_eqb, ◌≢◌, zero, suc, ◌+◌, ◌≤◌, Bool, true, false, ◌++◌, filter, drop, cond, append_assoc, ◌==◌, if◌then◌else◌, All, flat_map, range_with_len, count_by, get_or_past, All-from_recursion, recursion_from_All, All-map, dite, ℕ_discrete, dec_lt, Fate, CatalogueState, draws_of, trees_of, IsEntered, is_draw, Entry, ArePublishable, ReaderView, Step, InRange, Reply, Each, event_of, merge_of, opened_of, has_heard, opens_by, opens_of, opens_at, merge_entries, is_commit_of, is_commit_at, IsPlaced, AreNumbers, IsReady, EveryMergeIsMerged, is_draw_step, is_open_by, map-append, sum_by-append, cond_both, OpenEntry, NeverFall, with_draws_before, PlacedStands, LastStands}
+use Rattle.history_merge.proofs.Words.{◌≡◌, ℕ, ◌<◌, List, [], ◌∷◌, length, map, get_or, sym, ap, ◌∙◌, refl, subst, arith, eq-eqb, ne_eqb, ◌≢◌, zero, suc, ◌+◌, ◌≤◌, Bool, true, false, ◌++◌, filter, drop, cond, append_assoc, ◌==◌, if◌then◌else◌, All, flat_map, range_with_len, count_by, get_or_past, All-from_recursion, recursion_from_All, All-map, dite, ℕ_discrete, dec_lt, Fate, CatalogueState, draws_of, trees_of, IsEntered, is_draw, Entry, ArePublishable, ReaderView, Step, InRange, WorldState, Reply, event_of, merge_of, opened_of, has_heard, opens_by, opens_of, opens_at, merge_entries, is_commit_of, is_commit_at, IsPlaced, AreNumbers, IsReady, EveryMergeIsMerged, is_draw_step, is_open_by, map-append, sum_by-append, cond_both, OpenEntry, NeverFall, with_draws_before, OpensHavePlaces}
 use Rattle.generation_catalogue.specs.declared.entry.Entry.TheVariants as entries
 use Rattle.carousel_world.specs.Promises.{EveryRunMeetsTheHeadline, world_after}
 use Rattle.history_merge.proofs.Ordering.{commits_stand, draws_stand, each_merged}
 use Rattle.history_merge.proofs.Numbers.{trees_same}
 use Rattle.history_merge.proofs.Parts.{rising_by, own_of}
-use Rattle.history_merge.proofs.Replying.{run_of, drawings_at_end, catalogue_at_end}
+use Rattle.history_merge.proofs.Replying.{run_of, world_at_end}
 use Rattle.history_merge.proofs.Lists.{filter_takes, filter_skips, count_more, count_same}
 use Rattle.history_merge.proofs.Cutting.{heard_first, not_heard, cuts, cuts_all}
 
@@ -85,42 +85,35 @@ module _ {X : Type 0} (p d : X → Bool) where
   counted n y ys false is = let c = count_same d y ys is in omega arith
 
   -- and picked or not
-  push_skip : (n : ℕ) (y : X) (ys : List X) (early : List (ℕ × X)) (k : ℕ) (x : X) → p y ≡ false → Found (if d y then suc n else n) ys early k x → Found n (y ∷ ys) early k x
-  push_skip n y ys early k x no_p f = (y ∷ f.0, f.1, ap (λ (l : List X). y ∷ l) f.2, sym (counted n y f.0 (d y) refl) ∙ f.3, filter_skips p y f.0 no_p ∙ f.4)
-
-  push_take : (n : ℕ) (y : X) (ys : List X) (early : List (ℕ × X)) (k : ℕ) (x : X) (z : ℕ × X) → p y ≡ true → z.1 ≡ y → Found (if d y then suc n else n) ys early k x → Found n (y ∷ ys) (z ∷ early) k x
-  push_take n y ys early k x z is_p same f =
-      (y ∷ f.0, f.1, ap (λ (l : List X). y ∷ l) f.2, sym (counted n y f.0 (d y) refl) ∙ f.3, filter_takes p y f.0 is_p ∙ (λ i. sym same i ∷ f.4 i))
+  push : (n : ℕ) (y : X) (ys : List X) (early all : List (ℕ × X)) (k : ℕ) (x : X) (f : Found (if d y then suc n else n) ys early k x) → filter p (y ∷ f.0) ≡ map (λ z. z.1) all → Found n (y ∷ ys) all k x
+  push n y ys early all k x f same = (y ∷ f.0, f.1, ap (λ (l : List X). y ∷ l) f.2, sym (counted n y f.0 (d y) refl) ∙ f.3, same)
 
   split : (n : ℕ) (y : X) (ys : List X) (early late : List (ℕ × X)) (k : ℕ) (x : X)
       → ((early : List (ℕ × X)) → with_draws_before p d (if d y then suc n else n) ys ≡ early ++ (k, x) ∷ late → Found (if d y then suc n else n) ys early k x)
       → (b : Bool) → p y ≡ b → (if b then (n, y) ∷ [] else []) ++ with_draws_before p d (if d y then suc n else n) ys ≡ early ++ (k, x) ∷ late → Found n (y ∷ ys) early k x
-  split n y ys early late k x rest false no_p h = push_skip n y ys early k x no_p (rest early h)
+  split n y ys early late k x rest false no_p h = let f = rest early h in push n y ys early early k x f (filter_skips p y f.0 no_p ∙ f.4)
   split n y ys [] late k x rest true is_p h = let same : (n, y) ≡ (k, x) = cc in
       ([], ys, ap (λ (z : X). z ∷ ys) (ap (λ (q : ℕ × X). q.1) same), (let e : n ≡ k = ap (λ (q : ℕ × X). q.0) same in omega (arith, e)), refl)
   split n y ys (z ∷ early) late k x rest true is_p h = let same : (n, y) ≡ z = cc in
       let tail : with_draws_before p d (if d y then suc n else n) ys ≡ early ++ (k, x) ∷ late = cc in
-      push_take n y ys early k x z is_p (sym (ap (λ (q : ℕ × X). q.1) same)) (rest early tail)
+      let f = rest early tail in push n y ys early (z ∷ early) k x f (filter_takes p y f.0 is_p ∙ (λ i. (same i).1 ∷ f.4 i))
 
   pub stands : (n : ℕ) (xs : List X) (early late : List (ℕ × X)) (k : ℕ) (x : X) → with_draws_before p d n xs ≡ early ++ (k, x) ∷ late → Found n xs early k x
   stands n [] [] late k x h = absurd (cc)
   stands n [] (z ∷ early) late k x h = absurd (cc)
   stands n (y ∷ ys) early late k x h = split n y ys early late k x (λ l g. stands (if d y then suc n else n) ys l late k x g) (p y) refl h
 
-  pub stands_at : PlacedStands p d
-  stands_at xs early late k x h = let f = stands 0 xs early late k x h in (f.0, f.1, f.2, (let e = f.3 in omega arith), f.4)
-
--- where as many draws stand before it as there are, none stands after it
-module _ {X : Type 0} (p d : X → Bool) where
+  -- where as many draws stand before it as there are, none stands after it
   none_drawn : (xs : List X) → count_by d xs ≡ 0 → filter d xs ≡ []
   none_drawn [] h = refl
   none_drawn (x ∷ xs) h =
       cond_both (d x) (x ∷ filter d xs) (filter d xs) (λ l. l ≡ []) (λ is. let c = count_more d x xs is in absurd (omega (arith, c, h))) (λ is. let c = count_same d x xs is in none_drawn xs (omega (arith, c, h)))
 
-  pub last_at : LastStands p d
-  last_at xs early late k x h all = let f = stands_at p d xs early late k x h in
-      let a : count_by d xs ≡ count_by d f.0 + count_by d (x ∷ f.1) = ap (count_by d) f.2 ∙ sum_by-append (λ (y : X). cond {A = ℕ} (d y) 1 0) f.0 (x ∷ f.1) in
-      let b = f.3 in let rest = none_drawn (x ∷ f.1) (omega arith) in (f.0, f.1, f.2, rest)
+pub places : OpensHavePlaces
+places reader told early late k x h = let d : Step × Reply → Bool = λ y. is_draw_step y.0 in
+    let f = stands (λ y. is_open_by reader y.0) d 0 told early late k x h in let e = f.3 in
+    let a : count_by d told ≡ count_by d f.0 + count_by d (x ∷ f.1) = ap (count_by d) f.2 ∙ sum_by-append (λ (y : Step × Reply). cond {A = ℕ} (d y) 1 0) f.0 (x ∷ f.1) in
+    (f.0, f.1, f.2, omega arith, f.4, λ all. none_drawn (λ y. is_open_by reader y.0) d (x ∷ f.1) (omega arith))
 
 -- ---- each merge of a session owes what it should
 
@@ -142,13 +135,10 @@ step_of : (editors : List ℕ) → AreNumbers editors → (e : Entry) → IsEnte
 step_of editors n (entries.Commit editor edits outcome) entered placed f = (n.some editor placed, n.most editor placed)
 step_of editors n (entries.Draw asked generation first count) entered placed f = entered
 
-steps_of : (editors : List ℕ) → AreNumbers editors → (es : List Entry) → Each IsEntered es → Each (IsPlaced (length editors)) es → Each (λ e. (f : List Fate) → InRange (event_of editors e f).0) es
-steps_of editors n [] h k = tt
-steps_of editors n (e ∷ es) h k = (step_of editors n e h.0 k.0, steps_of editors n es h.1 k.1)
-
 in_range : (c : CatalogueState) (editors : List ℕ) (fates : List (List Fate)) (readers : List ReaderView) → IsReady c editors fates readers → All InRange (map (λ x. x.0) (merge_of editors readers fates c.entries))
 in_range c editors fates readers ready = let Q : Step × Reply → Type 0 = λ x. InRange x.0 in
-    let steps = steps_of editors ready.numbers c.entries (recursion_from_All IsEntered c.entries ready.history.entered) ready.parts.placed in
+    let steps = recursion_from_All (λ e. (f : List Fate) → InRange (event_of editors e f).0) c.entries (λ k d less.
+    step_of editors ready.numbers _ (ready.history.entered k d less) (All-from_recursion (IsPlaced (length editors)) c.entries ready.parts.placed k d less)) in
     All-map InRange (λ (x : Step × Reply). x.0) (merge_of editors readers fates c.entries)
     (All-from_recursion Q (merge_of editors readers fates c.entries) (each_merged Q readers (λ r low high o. (low, high)) editors fates c.entries steps))
 
@@ -156,15 +146,15 @@ in_range c editors fates readers ready = let Q : Step × Reply → Type 0 = λ x
 pub merged_is_published : (c : CatalogueState) (editors : List ℕ) (fates : List (List Fate)) (readers : List ReaderView) → IsReady c editors fates readers
     → let w = world_after c.carousel c.weights (map (λ x. x.0) (merge_of editors readers fates c.entries)) in ArePublishable w.catalogue.carousel (trees_of w.catalogue)
 merged_is_published c editors fates readers ready =
-    subst (λ (s : CatalogueState). ArePublishable s.carousel (trees_of s)) (sym (catalogue_at_end c ready.history ready.history.draws editors fates readers ready.answered))
+    subst (λ (w : WorldState). ArePublishable w.catalogue.carousel (trees_of w.catalogue)) (sym (world_at_end c ready.history editors fates readers ready.answered))
     (subst (ArePublishable c.carousel) (sym (trees_same editors [] c.entries)) ready.history.published)
 
 pub every : EveryRunMeetsTheHeadline → EveryMergeIsMerged
 every headline c editors fates readers ready = record {
-  run = run_of c ready.history ready.history.draws editors fates readers ready.answered;
+  run = run_of c ready.history editors fates readers ready.answered;
   steps = in_range c editors fates readers ready;
   headline = headline c.carousel c.weights (map (λ x. x.0) (merge_of editors readers fates c.entries)) (merged_is_published c editors fates readers ready);
-  drawings = drawings_at_end c ready.history ready.history.draws editors fates readers ready.answered;
+  drawings = ap (λ (w : WorldState). w.drawings) (world_at_end c ready.history editors fates readers ready.answered);
   commits = λ place within. commits_stand editors readers (get_or editors place 0) place (commit_told editors ready.numbers place within) fates c.entries;
   draws = draws_stand editors readers fates c.entries;
   opens = λ reader low high. opens_stand editors readers reader low high fates c.entries (rising_by reader (draws_of c) readers ready.parts.apart ready.parts.in_order);

@@ -1,5 +1,5 @@
 -- The editors' numbers decide no outcome and no draw.
-use Rattle.history_merge.proofs.Words.{◌≡◌, ℕ, ◌+◌, ◌-◌, ◌%◌, min, cond, List, [], ◌∷◌, length, map, drop, take, get_or, Result, Ok, Err, sym, ap, ◌∙◌, refl, ◌==◌, nat_lt, if◌then◌else◌, sum_by, sum_by-cons, Edit, GenerationState, generation_of, lines_of, trees_after, with_tree, last_tree, drawn_since, put_bytes, put_bytes_of, journal_of, is_draw, draws_of, current_of, cursor_of, cycle_in, count_drawn, items_drawn, outcome_of, unless_edit, Refusal, Entry, state_of}
+use Rattle.history_merge.proofs.Words.{◌≡◌, ℕ, ◌+◌, ◌-◌, ◌%◌, min, cond, List, [], ◌∷◌, length, map, drop, take, get_or, Result, Ok, Err, sym, ap, ◌∙◌, refl, ◌==◌, nat_lt, if◌then◌else◌, sum_by, sum_by-cons, Edit, Fate, generation_of, lines_of, trees_after, with_tree, last_tree, drawn_since, put_bytes, put_bytes_of, is_draw, draws_of, current_of, cursor_of, cycle_in, count_drawn, entry_after, unless_edit, CatalogueState, Refusal, Entry, drawing_of, state_of}
 use Rattle.oc_bytes.specs.Outcome.{cap_at_u64}
 use Rattle.path_tree.specs.Trees.{Tree}
 use Rattle.path_tree.specs.Edits.{apply_all}
@@ -12,6 +12,11 @@ abbrev pub numbered : List ℕ → Entry → Entry
 numbered editors (entries.Commit editor edits outcome) = entries.Commit (get_or editors editor 0) edits outcome
 numbered editors (entries.Draw asked generation first count) = entries.Draw asked generation first count
 
+abbrev outcome_with : ℕ → List Tree → ℕ → List Edit → Result ℕ Refusal
+outcome_with carousel trees journal edits = if (generation_of carousel trees).number == 16383 then Err (refusals.SeasonFull 16383)
+    else (if nat_lt 536870912 (journal + put_bytes edits) then Err (refusals.JournalFull (cap_at_u64 (journal + put_bytes edits)))
+    else unless_edit ((generation_of carousel trees).number + 1) (apply_all (last_tree trees) edits))
+
 module _ (editors : List ℕ) where
   pub trees_same : (ts : List Tree) (es : List Entry) → trees_after ts (map (numbered editors) es) ≡ trees_after ts es
   trees_same ts [] = refl
@@ -19,7 +24,7 @@ module _ (editors : List ℕ) where
   trees_same ts (entries.Commit editor edits (Err refusal) ∷ es) = trees_same ts es
   trees_same ts (entries.Draw asked generation first count ∷ es) = trees_same ts es
 
-  pub since_same : (n : ℕ) (es : List Entry) → drawn_since n (map (numbered editors) es) ≡ drawn_since n es
+  since_same : (n : ℕ) (es : List Entry) → drawn_since n (map (numbered editors) es) ≡ drawn_since n es
   since_same n [] = refl
   since_same n (entries.Commit editor edits (Ok number) ∷ es) = since_same 0 es
   since_same n (entries.Commit editor edits (Err refusal) ∷ es) = since_same n es
@@ -27,7 +32,8 @@ module _ (editors : List ℕ) where
 
   sum_same : (f : Entry → ℕ) → ((e : Entry) → f (numbered editors e) ≡ f e) → (es : List Entry) → sum_by f (map (numbered editors) es) ≡ sum_by f es
   sum_same f same [] = refl
-  sum_same f same (e ∷ es) = sum_by-cons f (numbered editors e) (map (numbered editors) es) ∙ (λ i. same e i + sum_same f same es i) ∙ sym (sum_by-cons f e es)
+  sum_same f same (e ∷ es) =
+      sum_by-cons f (numbered editors e) (map (numbered editors) es) ∙ (λ i. same e i + sum_same f same es i) ∙ sym (sum_by-cons f e es)
 
   put_same : (e : Entry) → put_bytes_of (numbered editors e) ≡ put_bytes_of e
   put_same (entries.Commit editor edits outcome) = refl
@@ -37,31 +43,36 @@ module _ (editors : List ℕ) where
   draw_same (entries.Commit editor edits outcome) = refl
   draw_same (entries.Draw asked generation first count) = refl
 
-  pub journal_same : (carousel : ℕ) (weights : List ℕ) (es : List Entry) → journal_of (state_of carousel weights (map (numbered editors) es)) ≡ journal_of (state_of carousel weights es)
-  journal_same carousel weights es = sum_same put_bytes_of put_same es
+  module _ (carousel : ℕ) (weights : List ℕ) (es : List Entry) where
+    abbrev plain : CatalogueState
+    plain = state_of carousel weights es
 
-  pub draws_same : (carousel : ℕ) (weights : List ℕ) (es : List Entry) → draws_of (state_of carousel weights (map (numbered editors) es)) ≡ draws_of (state_of carousel weights es)
-  draws_same carousel weights es = sum_same (λ e. cond {A = ℕ} (is_draw e) 1 0) draw_same es
+    abbrev stored : CatalogueState
+    stored = state_of carousel weights (map (numbered editors) es)
 
-  abbrev outcome_with : ℕ → List Tree → ℕ → List Edit → Result ℕ Refusal
-  outcome_with carousel trees journal edits = if (generation_of carousel trees).number == 16383 then Err (refusals.SeasonFull 16383)
-      else (if nat_lt 536870912 (journal + put_bytes edits) then Err (refusals.JournalFull (cap_at_u64 (journal + put_bytes edits)))
-      else unless_edit ((generation_of carousel trees).number + 1) (apply_all (last_tree trees) edits))
+    pub draws_same : draws_of stored ≡ draws_of plain
+    draws_same = sum_same (λ e. cond {A = ℕ} (is_draw e) 1 0) draw_same es
 
-  pub outcome_same : (carousel : ℕ) (weights : List ℕ) (es : List Entry) (edits : List Edit) → outcome_of (state_of carousel weights (map (numbered editors) es)) edits ≡ outcome_of (state_of carousel weights es) edits
-  outcome_same carousel weights es edits = λ i. outcome_with carousel (trees_same [] es i) (journal_same carousel weights es i) edits
+    current_same : current_of stored ≡ current_of plain
+    current_same = ap (generation_of carousel) (trees_same [] es)
 
-  pub current_same : (carousel : ℕ) (weights : List ℕ) (es : List Entry) → current_of (state_of carousel weights (map (numbered editors) es)) ≡ current_of (state_of carousel weights es)
-  current_same carousel weights es = ap (generation_of carousel) (trees_same [] es)
+    cycle_same : cycle_in stored ≡ cycle_in plain
+    cycle_same = λ i. cycle_of weights (lines_of (current_same i))
 
-  pub cycle_same : (carousel : ℕ) (weights : List ℕ) (es : List Entry) → cycle_in (state_of carousel weights (map (numbered editors) es)) ≡ cycle_in (state_of carousel weights es)
-  cycle_same carousel weights es = ap (λ (g : GenerationState). cycle_of weights (lines_of g)) (current_same carousel weights es)
+    cursor_same : cursor_of stored ≡ cursor_of plain
+    cursor_same = λ i. since_same 0 es i % length (cycle_same i)
 
-  pub cursor_same : (carousel : ℕ) (weights : List ℕ) (es : List Entry) → cursor_of (state_of carousel weights (map (numbered editors) es)) ≡ cursor_of (state_of carousel weights es)
-  cursor_same carousel weights es = λ i. since_same 0 es i % length (cycle_same carousel weights es i)
+    count_drawn_same : (asked : ℕ) → count_drawn stored asked ≡ count_drawn plain asked
+    count_drawn_same asked = λ i. min asked (length (cycle_same i) - cursor_same i)
 
-  pub count_drawn_same : (carousel : ℕ) (weights : List ℕ) (es : List Entry) (asked : ℕ) → count_drawn (state_of carousel weights (map (numbered editors) es)) asked ≡ count_drawn (state_of carousel weights es) asked
-  count_drawn_same carousel weights es asked = λ i. min asked (length (cycle_same carousel weights es i) - cursor_same carousel weights es i)
+    pub drawing_same : (asked : ℕ) (fates : List Fate) → drawing_of stored asked fates ≡ drawing_of plain asked fates
+    drawing_same asked fates = λ i. record {
+      generation = current_same i;
+      items = take (count_drawn_same asked i) (drop (cursor_same i) (cycle_same i));
+      fates = fates;
+    }
 
-  pub items_same : (carousel : ℕ) (weights : List ℕ) (es : List Entry) (asked : ℕ) → items_drawn (state_of carousel weights (map (numbered editors) es)) asked ≡ items_drawn (state_of carousel weights es) asked
-  items_same carousel weights es asked = λ i. take (count_drawn_same carousel weights es asked i) (drop (cursor_same carousel weights es i) (cycle_same carousel weights es i))
+    pub entry_same : (e : Entry) → entry_after stored (numbered editors e) ≡ numbered editors (entry_after plain e)
+    entry_same (entries.Commit editor edits outcome) = λ i.
+        entries.Commit (get_or editors editor 0) edits (outcome_with carousel (trees_same [] es i) (sum_same put_bytes_of put_same es i) edits)
+    entry_same (entries.Draw asked generation first count) = λ i. entries.Draw asked (current_same i).number (cursor_same i) (count_drawn_same asked i)

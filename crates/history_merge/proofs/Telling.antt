@@ -1,5 +1,5 @@
 -- One entry more of a merge.
-use Rattle.history_merge.proofs.Words.{◌≡◌, ℕ, zero, suc, ◌+◌, ◌<◌, ◌≤◌, true, List, [], ◌∷◌, ◌++◌, length, drop, get_or, Result, sym, ap, ◌∙◌, refl, subst, arith, append_assoc, append-nil, flat_map, range_with_len, count_by, get_or-drop, drop_all, Edit, Fate, is_draw, Refusal, Entry, ReaderView, Step, Draw, Reply, Each, event_of, opens_at, merge_entries, merge_of, IsPlaced, AreParts, WaitingFields, waited_by, opened_at, AllClimb, AreLeft}
+use Rattle.history_merge.proofs.Words.{◌≡◌, ℕ, zero, suc, ◌+◌, ◌<◌, ◌≤◌, true, List, [], ◌∷◌, ◌++◌, length, drop, get_or, Result, sym, ap, ◌∙◌, refl, subst, arith, append_assoc, append-nil, flat_map, range_with_len, count_by, get_or-drop, drop_all, Edit, Fate, is_draw, Refusal, Entry, ReaderView, Step, Draw, Reply, Each, event_of, opens_at, merge_entries, merge_of, IsPlaced, AreParts, WaitingFields, waited_by, opened_at, AllClimb, HaveTold}
 use Rattle.generation_catalogue.specs.declared.entry.Entry.TheVariants as entries
 use Rattle.carousel_world.specs.declared.event.Reply.TheVariants as replies
 use Rattle.history_merge.proofs.Lists.{count_more, count_same}
@@ -27,9 +27,9 @@ module _ (es : List Entry) (fates : List (List Fate)) (editors : List ℕ) (read
   parts_climb parts waiting e = subst (AllClimb 0) (sym e) (all_climb (count_by is_draw es) readers (range_with_len 1 64) parts.in_order)
 
   pub merge_begins : AreParts es fates editors readers → (before waiting : List WaitingFields) (told : List (Step × Reply)) → before ≡ flat_map (waited_by readers) (range_with_len 1 64)
-      → AreLeft 0 before waiting → told ≡ flat_map (opened_at 0) before → IsMerging 0 0 waiting told
-  merge_begins parts before waiting told is left t = record {
-    so_far = ap (λ l. l ++ rest 0 0) (t ∙ at 0);
+      → HaveTold 0 before waiting [] told → IsMerging 0 0 waiting told
+  merge_begins parts before waiting told is left = record {
+    so_far = ap (λ l. l ++ rest 0 0) (left.told ∙ at 0);
     drawn = (let d = parts.drawn in omega arith);
     few = omega arith;
     placed = parts.placed;
@@ -67,9 +67,9 @@ module _ (es : List Entry) (fates : List (List Fate)) (editors : List ℕ) (read
 
   pub with_draw : (i k : ℕ) (waiting after : List WaitingFields) (told mid new : List (Step × Reply)) (asked generation first count : ℕ) (fs : List Fate) → i < length es
       → entries.Draw asked generation first count ≡ get_or es i (entries.Draw asked generation first count) → fs ≡ get_or fates k []
-      → mid ≡ told ++ (Draw asked fs, replies.Drawn generation first count) ∷ [] → new ≡ mid ++ flat_map (opened_at (k + 1)) waiting → AreLeft (k + 1) waiting after
+      → mid ≡ told ++ (Draw asked fs, replies.Drawn generation first count) ∷ [] → HaveTold (k + 1) waiting after mid new
       → IsMerging i k waiting told → IsMerging (i + 1) (k + 1) after new
-  with_draw i k waiting after told mid new asked generation first count fs less is under m n left h = let e = entries.Draw asked generation first count in
+  with_draw i k waiting after told mid new asked generation first count fs less is under m left h = let e = entries.Draw asked generation first count in
       let next : drop i es ≡ e ∷ drop (i + 1) es = left_at es i e less is in
       let c : count_by is_draw (drop i es) ≡ suc (count_by is_draw (drop (i + 1) es)) = ap (count_by is_draw) next ∙ count_more is_draw e (drop (i + 1) es) refl in
       let all = h.drawn in let low = h.few in let more : k + 1 ≡ suc k = omega arith in let flat : k ≡ k + 0 = omega arith in
@@ -79,7 +79,7 @@ module _ (es : List Entry) (fates : List (List Fate)) (editors : List ℕ) (read
       let drawn : List (Step × Reply) = (Draw asked fs, replies.Drawn generation first count) ∷ [] in
       let opened : flat_map (opened_at (k + 1)) waiting ≡ ops = h.later (k + 1) (omega arith) in
       let here : Each (IsPlaced (length editors)) (e ∷ drop (i + 1) es) = subst (Each (IsPlaced (length editors))) next h.placed in record {
-        so_far = ap (λ l. l ++ rest (k + 1) (i + 1)) (n ∙ (λ j. m j ++ opened j))
+        so_far = ap (λ l. l ++ rest (k + 1) (i + 1)) (left.told ∙ (λ j. m j ++ opened j))
             ∙ append_assoc (told ++ drawn) ops (rest (k + 1) (i + 1)) ∙ append_assoc told drawn (ops ++ rest (k + 1) (i + 1))
             ∙ (λ j. told ++ (Draw asked (own j), replies.Drawn generation first count) ∷ (opens_at readers (more j) ++ merge_entries editors readers (more j) (cut j) (drop (i + 1) es)))
             ∙ ap (λ l. told ++ merge_entries editors readers k (drop k fates) l) (sym next) ∙ h.so_far;

@@ -1,5 +1,5 @@
 -- Such a catalogue, and such opens, can be: those of a run of the world.
-use Rattle.history_merge.proofs.Words.{◌≡◌, ℕ, zero, suc, ◌<◌, ◌≤◌, List, [], ◌∷◌, take, get_or, Some, Ok, refl, subst, arith, slice_get, slice_index_or, Fate, GenerationState, ArePublishable, CatalogueState, IsHistory, IsEntered, entry_after, trees_of, Entry, ReaderView, OpenEntry, Drawing, state_of, drawings_of, AreAnswered, AMergeIsReady, AreParts}
+use Rattle.history_merge.proofs.Words.{◌≡◌, ℕ, zero, suc, ◌+◌, ◌<◌, List, [], ◌∷◌, ◌++◌, take, get_or, Some, Ok, refl, sym, ap, ◌∙◌, subst, arith, append-nil, append_assoc, slice_get, All, All-from_recursion, Fate, GenerationState, ArePublishable, CatalogueState, IsHistory, IsEntered, entry_after, trees_of, Entry, ReaderView, OpenEntry, Drawing, state_of, drawings_of, AreAnswered, AMergeIsReady, AreNumbers, AreParts}
 use Rattle.ts_packet.specs.declared.Fate.TheVariants.{Keep, Lose, Flip}
 use Rattle.ddb_block.specs.Message.{message_at}
 use Rattle.ddb_block.specs.Blocks.{block_at}
@@ -49,70 +49,41 @@ reader_with reader opens = record {
 abbrev readers : List ReaderView
 readers = reader_with 1 first_opens ∷ reader_with 2 second_opens ∷ []
 
-at : (k : ℕ) (x e : Entry) → Some x ≡ Some e → x ≡ entry_after (state_of 1 ones (take k those)) x → e ≡ entry_after (state_of 1 ones (take k those)) e
-at k x e h is = let s : x ≡ e = cc in subst (λ (y : Entry). y ≡ entry_after (state_of 1 ones (take k those)) y) s is
-
 -- each entry is what the rules give after those before it
-first_commit : entries.Commit 0 (puts (1 ∷ 2 ∷ 3 ∷ [])) (Ok 1) ≡ entry_after (state_of 1 ones (take 0 those)) (entries.Commit 0 (puts (1 ∷ 2 ∷ 3 ∷ [])) (Ok 1))
+abbrev AreGiven : (before es : List Entry) → Type 0
+AreGiven before [] = Unit {0}
+AreGiven before (e ∷ es) = (e ≡ entry_after (state_of 1 ones before) e) × AreGiven (before ++ e ∷ []) es
+
+given : AreGiven [] those
 unfolding placement.kept_modules placement.least_with cycles.groups_from
-first_commit = refl
+given = (refl, (refl, (refl, (refl, (refl, tt)))))
 
-first_draw : entries.Draw 1048576 1 0 3 ≡ entry_after (state_of 1 ones (take 1 those)) (entries.Draw 1048576 1 0 3)
-unfolding placement.kept_modules placement.least_with cycles.groups_from
-first_draw = refl
+each_given : (before es : List Entry) → AreGiven before es → (k : ℕ) (e : Entry) → slice_get es k ≡ Some e → e ≡ entry_after (state_of 1 ones (before ++ take k es)) e
+each_given before [] h k e at = absurd (cc)
+each_given before (x ∷ xs) h zero e at = let same : x ≡ e = cc in
+    subst (λ y. y ≡ entry_after (state_of 1 ones (before ++ [])) y) same (h.0 ∙ ap (λ l. entry_after (state_of 1 ones l) x) (sym (append-nil before)))
+each_given before (x ∷ xs) h (suc k) e at = each_given (before ++ x ∷ []) xs h.1 k e at ∙ ap (λ l. entry_after (state_of 1 ones l) e) (append_assoc before (x ∷ []) (take k xs))
 
-second_commit : entries.Commit 1 (puts (4 ∷ 5 ∷ 6 ∷ [])) (Ok 2) ≡ entry_after (state_of 1 ones (take 2 those)) (entries.Commit 1 (puts (4 ∷ 5 ∷ 6 ∷ [])) (Ok 2))
-unfolding placement.kept_modules placement.least_with cycles.groups_from
-second_commit = refl
-
-second_draw : entries.Draw 1048576 2 0 3 ≡ entry_after (state_of 1 ones (take 3 those)) (entries.Draw 1048576 2 0 3)
-unfolding placement.kept_modules placement.least_with cycles.groups_from
-second_draw = refl
-
-last_draw : entries.Draw 1048576 2 0 3 ≡ entry_after (state_of 1 ones (take 4 those)) (entries.Draw 1048576 2 0 3)
-unfolding placement.kept_modules placement.least_with cycles.groups_from
-last_draw = refl
-
-each_in : (k : ℕ) (e : Entry) → slice_get those k ≡ Some e → e ≡ entry_after (state_of 1 ones (take k those)) e
-each_in zero e h = at 0 (entries.Commit 0 (puts (1 ∷ 2 ∷ 3 ∷ [])) (Ok 1)) e h first_commit
-each_in (suc zero) e h = at 1 (entries.Draw 1048576 1 0 3) e h first_draw
-each_in (suc (suc zero)) e h = at 2 (entries.Commit 1 (puts (4 ∷ 5 ∷ 6 ∷ [])) (Ok 2)) e h second_commit
-each_in (suc (suc (suc zero))) e h = at 3 (entries.Draw 1048576 2 0 3) e h second_draw
-each_in (suc (suc (suc (suc zero)))) e h = at 4 (entries.Draw 1048576 2 0 3) e h last_draw
-each_in (suc (suc (suc (suc (suc k))))) e h = absurd (cc)
-
-entered_in : (k : ℕ) (d : Entry) → k < 5 → IsEntered (slice_index_or those k d)
-entered_in zero d h = refl
-entered_in (suc zero) d h = (omega arith, omega arith)
-entered_in (suc (suc zero)) d h = refl
-entered_in (suc (suc (suc zero))) d h = (omega arith, omega arith)
-entered_in (suc (suc (suc (suc zero)))) d h = (omega arith, omega arith)
-entered_in (suc (suc (suc (suc (suc k))))) d h = absurd (omega arith)
+entered : All IsEntered those
+entered = All-from_recursion IsEntered those (refl, ((omega arith, omega arith), (refl, ((omega arith, omega arith), ((omega arith, omega arith), tt)))))
 
 history : ArePublishable 1 (trees_of kept) → IsHistory kept
-history published = record { weights = are_ones; entered = entered_in; each = each_in; draws = omega arith; published = published }
+history published = record { weights = are_ones; entered = entered; each = each_given [] those given; draws = omega arith; published = published }
 
 abbrev numbers : List ℕ
 numbers = 1 ∷ 2 ∷ []
 
-some_in : (i : ℕ) → i < 2 → 1 ≤ get_or numbers i 0
-some_in zero h = omega arith
-some_in (suc zero) h = omega arith
-some_in (suc (suc i)) h = absurd (omega arith)
+number_at : (i : ℕ) → i < 2 → get_or numbers i 0 ≡ i + 1
+number_at zero h = refl
+number_at (suc zero) h = refl
+number_at (suc (suc i)) h = absurd (omega arith)
 
-most_in : (i : ℕ) → i < 2 → get_or numbers i 0 ≤ 64
-most_in zero h = omega arith
-most_in (suc zero) h = omega arith
-most_in (suc (suc i)) h = absurd (omega arith)
-
-apart_in : (i j : ℕ) → i < 2 → j < 2 → get_or numbers i 0 ≡ get_or numbers j 0 → i ≡ j
-apart_in zero zero h k e = refl
-apart_in zero (suc zero) h k e = absurd (omega arith)
-apart_in (suc zero) zero h k e = absurd (omega arith)
-apart_in (suc zero) (suc zero) h k e = refl
-apart_in zero (suc (suc j)) h k e = absurd (omega arith)
-apart_in (suc zero) (suc (suc j)) h k e = absurd (omega arith)
-apart_in (suc (suc i)) j h k e = absurd (omega arith)
+are_numbers : AreNumbers numbers
+are_numbers = record {
+  some = λ i h. (let e = number_at i h in omega arith);
+  most = λ i h. (let e = number_at i h in omega arith);
+  apart = λ i j h k same. (let e = number_at i h in let f = number_at j k in omega arith);
+}
 
 parts : AreParts those all_fates numbers readers
 parts = record {
@@ -150,7 +121,7 @@ ready run = (
   record {
     history = history run.published;
     parts = parts;
-    numbers = record { some = some_in; most = most_in; apart = apart_in };
+    numbers = are_numbers;
     answered = subst (λ ds. AreAnswered ds readers) drawn_is answered;
   },
   refl,

@@ -2,16 +2,26 @@
 -- had heard so many draws, by the readers' numbers and then in each reader's order. The order is this project's own.
 use Rattle.std.specs.Prelude.{ℕ, suc, ◌==◌, Bool, List, [], ◌∷◌, ◌++◌, map, drop, get_or, if◌then◌else◌, flat_map, filter}
 use Rattle.std.specs.List.{range_with_len}
+use Rattle.std.specs.declared.vec.Vec.{Vec}
+use Rattle.std.specs.declared.alloc.Global.{Global}
 use Rattle.ts_packet.specs.declared.Fate.{Fate}
 use Rattle.generation_catalogue.specs.declared.entry.Entry.{Entry}
 use Rattle.generation_catalogue.specs.declared.entry.Entry.TheVariants as entries
 use Rattle.open_history.specs.Opens.{ReaderView}
 use Rattle.open_history.specs.declared.entry.OpenEntry.{OpenEntry}
-use Rattle.carousel_world.specs.Events.{Step, Commit, Draw, Open}
+use Rattle.carousel_world.specs.Events.{Step, Commit, Draw, Open, view}
+use Rattle.carousel_world.specs.declared.event.Event.{Event}
 use Rattle.carousel_world.specs.World.{commit_reply}
 use Rattle.carousel_world.specs.declared.event.Reply.{Reply}
 use Rattle.carousel_world.specs.declared.event.Reply.TheVariants as replies
 pub use Rattle.std.specs.List.{AllByRecursion as Each}
+
+-- an event and its reply, without where the fates lie in memory
+abbrev pub known_view : Event × Reply → Step × Reply
+known_view x = (view x.0, x.1)
+
+abbrev pub fates_view : Vec Fate Global → List Fate
+fates_view v = v.items
 
 -- an entry's event and reply, under these fates if it is a draw. A commit's entry has the place of its editor, and its event the number
 abbrev pub event_of : List ℕ → Entry → List Fate → Step × Reply

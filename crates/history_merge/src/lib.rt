@@ -30,10 +30,8 @@
 //! ```
 #![tactic(auto)]
 
-mod again;
 mod history;
 mod laws;
-mod waiting;
 
 pub use history::merge;
 pub use laws::{merges_are_runs, merges_grow, opens_have_places, premises_can_be_met};

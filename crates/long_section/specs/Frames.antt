@@ -8,7 +8,8 @@ use Rattle.long_section.specs.declared.Header.{Header}
 
 -- a section's fields, its body as a list
 pub record Fields : Type 0 where
-  -- table_id_extension: transport_stream_id of a PAT, program_number of a PMT
+  -- table_id_extension: transport_stream_id of a PAT, program_number of a PMT, of DSM-CC the low half of a transactionId or
+  -- a module's id
   pub extension : ℕ
   pub version : ℕ
   pub number : ℕ

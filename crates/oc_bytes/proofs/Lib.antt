@@ -1,4 +1,5 @@
 pub mod Agree
+pub mod Digits
 pub mod CallerLemmas
 pub mod Loops
 pub mod Outcomes

@@ -1,5 +1,5 @@
-//! The bytes that the crates of the carousel share: shared bytes, the fields of a message, descriptors, a writer of
-//! fields, and the two traits through which bytes come from the outside and go there.
+//! What the crates of the carousel share: shared bytes, the fields of a message, descriptors, a writer of
+//! fields, numbers in decimal digits, and the two traits through which bytes come from the outside and go there.
 //!
 //! Numbers on the wire are big-endian (ISO/IEC 13818-1 and ISO/IEC 13818-6). The traits, their counts of
 //! faults and their forms in memory are this project's own.
@@ -15,6 +15,7 @@
 #![tactic(auto)]
 
 mod blob;
+mod decimals;
 mod descriptors;
 mod fields;
 mod lengths;
@@ -26,6 +27,7 @@ mod source;
 mod writer;
 
 pub use blob::{Blob, are_bytes};
+pub use decimals::decimal;
 pub use descriptors::{Descriptor, Descriptors};
 pub use fields::{Cut, Fields};
 pub use lengths::{MOST_LENGTH, MOST_SECTION, length_field};

@@ -17,7 +17,8 @@ const KIND: u8 = STREAM_TYPE;
 /// The component tag of the carousel's stream.
 const TAG: u8 = COMPONENT_TAG;
 
-/// The one section of a written table: number 1, version 0.
+/// The one section of a written table: extension 1, which is both [`TRANSPORT_STREAM`](carousel_profile::TRANSPORT_STREAM) and
+/// [`PROGRAM`](carousel_profile::PROGRAM), version 0, section 0 of 0.
 fn written_table(alloc: Global, id: u8, body: &[u8]) -> Result<Vec<u8>, NoMemory>
     requires { length body.now ≤ 1012 }
     ensures { MakesList result (spelling id

@@ -44,13 +44,14 @@ TakesPrefix source = Known source.before source.after IsRear
 abbrev pub WritesAll : Over Bytes → Bytes → Type 0
 WritesAll sink output = Known sink.before sink.after (λ before after. after ≡ before ++ output)
 
--- a prefix of it, where this is its rest
+-- a part of the output was appended, and this is its rest
 pub record Appends (output before after : Bytes) : Type 0 where
   pub part : Bytes
   pub rest : Bytes
   pub output_is : output ≡ part ++ rest
   pub after_is : after ≡ before ++ part
 
+-- a prefix of the output
 abbrev pub WritesPrefix : Over Bytes → Bytes → Type 0
 WritesPrefix sink output = Known sink.before sink.after (Appends output)
 

@@ -10,7 +10,7 @@ use Rattle.generation_catalogue.specs.declared.entry.CommitFault.TheVariants as 
 use Rattle.mount_table.specs.declared.fault.TableFault.{TableFault}
 use Rattle.mount_table.specs.declared.fault.TableFault.TheVariants as tables
 use Rattle.reception_report.specs.Sync.{sync_line}
-use Rattle.session_script.specs.Texts.{cause_text}
+use Rattle.session_script.specs.Scripts.{cause_text}
 use Rattle.session_script.specs.declared.script.LineCause.{LineCause}
 use Rattle.session_script.specs.declared.script.ScriptFault.{ScriptFault}
 use Rattle.session_script.specs.declared.script.ScriptFault.TheVariants as scripts

@@ -1,12 +1,19 @@
 -- From a script's lines to the events of a world. The language of scripts is this project's own.
-use Rattle.std.specs.Prelude.{ℕ, ◌+◌, ◌*◌, ◌/◌, ◌%◌, ◌==◌, List, [], ◌∷◌, ◌++◌, map, if◌then◌else◌}
+use Rattle.std.specs.Prelude.{◌≡◌, ℕ, ◌+◌, ◌*◌, ◌/◌, ◌%◌, ◌==◌, List, [], ◌∷◌, ◌++◌, map, Option, Some, None, if◌then◌else◌}
 use Rattle.std.specs.List.{range_with_len}
+use Rattle.std.specs.Ordering.{nat_cmp}
+use Rattle.std.specs.BTreeMap.{get}
+use Rattle.std.specs.declared.vec.Vec.{Vec}
+use Rattle.std.specs.declared.alloc.Global.{Global}
 use Rattle.path_tree.specs.Paths.{Bytes}
 use Rattle.path_tree.specs.declared.tree.Edit.{Edit}
 use Rattle.path_tree.specs.declared.tree.Edit.TheVariants as edits
 use Rattle.session_script.specs.Scripts.{Act, LineFields, Fields}
 use Rattle.session_script.specs.Scripts as lines
 use Rattle.carousel_world.specs.Events.{Step, Commit, Draw, Open}
+use Rattle.rehearsal.specs.declared.interpreter.Happening.{Happening}
+use Rattle.rehearsal.specs.declared.interpreter.Happening.TheVariants as code
+use Rattle.rehearsal.specs.declared.interpreter.Interpreter.{Interpreter}
 use Rattle.cycle_planner.specs.declared.TheConstants.{MOST_DRAWN}
 
 -- of each editor, the edits of its lines that no commit line of it followed yet
@@ -58,3 +65,23 @@ events_from p (l ∷ ls) = events_of_line p l.act ++ events_from (pending_after 
 -- The events of a script, in written order. Edits that no commit line follows are in none.
 abbrev pub events_of : Fields → List Step
 events_of script = events_from none_pending script.lines
+
+-- ---- what the interpreter of lines says and holds
+
+abbrev pub view_happening : Happening → Step
+view_happening (code.Commit editor edits) = Commit editor edits.items
+view_happening (code.Draw asked fates) = Draw asked fates.items
+view_happening (code.Open reader path) = Open reader path
+
+-- what happens at a line, if something does
+abbrev pub happened : Option Happening → List Step
+happened (Some what) = view_happening what ∷ []
+happened None = []
+
+abbrev pub edits_in : Option (Vec Edit Global) → List Edit
+edits_in (Some edits) = edits.items
+edits_in None = []
+
+-- of each editor, its edits that wait
+abbrev pub Holds : Interpreter → Pending → Type 0
+Holds i p = (editor : ℕ) → edits_in (get nat_cmp i.waiting editor) ≡ p editor

@@ -1,5 +1,5 @@
 -- The report of what happened in a world: a line for each event, with its reply. These are this project's own texts.
-use Rattle.std.specs.Prelude.{ℕ, List, [], ◌∷◌, ◌++◌, decimal}
+use Rattle.std.specs.Prelude.{◌≡◌, ℕ, List, [], ◌∷◌, ◌++◌, Result, OnOk}
 use Rattle.path_tree.specs.Paths.{Bytes}
 use Rattle.path_tree.specs.Texts.{text_of}
 use Rattle.shell_words.specs.Reports.{commit_words, draw_words, open_words, committed_words, refused_words}
@@ -8,6 +8,11 @@ use Rattle.carousel_world.specs.Events.{Step, Commit, Draw, Open}
 use Rattle.carousel_world.specs.World.{WorldState, initial_world, replies_to}
 use Rattle.carousel_world.specs.declared.event.Reply.{Reply}
 use Rattle.carousel_world.specs.declared.event.Reply.TheVariants as replies
+use Rattle.carousel_world.specs.Promises.{MeetsHeadline}
+use Rattle.session_script.specs.Scripts.{Fields}
+use Rattle.shell_streams.specs.Sending.{OutputState, Puts, IsFlushed}
+use Rattle.shell_streams.specs.declared.output.OutputFault.{OutputFault}
+use Rattle.rehearsal.specs.Lines.{events_of}
 
 -- what a line begins with
 abbrev pub subject_words : Step → Bytes
@@ -51,3 +56,15 @@ report_in w events = report events (replies_to w events)
 -- the report of events of which the first is the first of all in a world of carousel 1 with these weights
 abbrev pub report_of : List ℕ → List Step → Bytes
 report_of weights events = report_in (initial_world 1 weights) events
+
+-- What running a script promises: its events happened in a world of carousel 1 with these weights, in written order, and their report was
+-- put: all of them, and nothing is pending then; or, on a fault, those before it, of whose report a prefix was written. What is promised
+-- of every list of events holds of those that happened.
+pub record Rehearses {T : Type 0} (outcome : Result T OutputFault) (old new : OutputState) (weights : List ℕ) (script : Fields) : Type 0 where
+  pub happened : List Step
+  pub rest : List Step
+  pub events : events_of script ≡ happened ++ rest
+  pub all : OnOk outcome (rest ≡ [])
+  pub puts : Puts outcome old new (report_of weights happened)
+  pub empty : OnOk outcome (IsFlushed new)
+  pub headline : MeetsHeadline 1 weights happened

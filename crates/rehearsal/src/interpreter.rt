@@ -1,13 +1,14 @@
-ghost use Rattle.std.specs.Prelude.{◌≡◌, OnOk, IfOk, IfSome};
-ghost use Rattle.session_script.specs.Parts.{act_of};
+//! What happens at a script's lines.
+ghost use Rattle.std.specs.Prelude.{◌≡◌, ◌<◌, ◌≤◌, OnOk, IfOk, IfSome};
+ghost use Rattle.session_script.specs.Scripts.{act_of};
 ghost use Rattle.session_script.specs.Ranges.{IsInRange};
 ghost use Rattle.carousel_world.specs.World.{InRange};
-ghost use Rattle.rehearsal.specs.Lines.{Pending, none_pending, with_edit, without, pending_after, events_of_line};
-ghost use Rattle.rehearsal.specs.Happening.{Holds, view_happening, happened};
+ghost use Rattle.rehearsal.specs.Lines as lines;
+ghost use Rattle.rehearsal.specs.Lines.{Pending, none_pending, with_edit, without, pending_after, events_of_line, Holds, view_happening, happened};
+ghost use Rattle.session_script.specs.declared.words.TheConstants.{MOST_FILLED};
 
-use crate::filling::filled;
 use carousel_world::{Event, Fate};
-use oc_bytes::NoMemory;
+use oc_bytes::{Blob, NoMemory};
 use path_tree::{Edit, Edits, Path};
 use session_script::Task;
 use std::alloc::Global;
@@ -75,32 +76,22 @@ impl Interpreter {
             → Holds self.new (pending_after p (act_of task))) }
         ensures range { IfOk result (λ what. IfSome what (λ h. InRange (view_happening h))) }
     {
-        match task {
-            Task::Put(editor, path, content) => {
-                self.add(editor, Edit::Put(path, content))?;
-                Ok(None)
-            }
+        let (editor, edit) = match task {
+            Task::Put(editor, path, content) => (editor, Edit::Put(path, content)),
             Task::Fill(editor, path, size, from) => {
-                let content = filled(self.alloc, size, from)?;
-                self.add(editor, Edit::Put(path, content))?;
-                Ok(None)
+                (editor, Edit::Put(path, filled(self.alloc, size, from)?))
             }
-            Task::Remove(editor, path) => {
-                self.add(editor, Edit::Remove(path))?;
-                Ok(None)
+            Task::Remove(editor, path) => (editor, Edit::Remove(path)),
+            Task::MakeFolder(editor, path) => (editor, Edit::MakeFolder(path)),
+            Task::RemoveFolder(editor, path) => (editor, Edit::RemoveFolder(path)),
+            Task::Commit(editor) => {
+                return Ok(Some(Happening::Commit(editor, self.take(editor))));
             }
-            Task::MakeFolder(editor, path) => {
-                self.add(editor, Edit::MakeFolder(path))?;
-                Ok(None)
-            }
-            Task::RemoveFolder(editor, path) => {
-                self.add(editor, Edit::RemoveFolder(path))?;
-                Ok(None)
-            }
-            Task::Commit(editor) => Ok(Some(Happening::Commit(editor, self.take(editor)))),
-            Task::Draw(asked, fates) => Ok(Some(Happening::Draw(asked, fates))),
-            Task::Open(reader, path) => Ok(Some(Happening::Open(reader, path))),
-        }
+            Task::Draw(asked, fates) => return Ok(Some(Happening::Draw(asked, fates))),
+            Task::Open(reader, path) => return Ok(Some(Happening::Open(reader, path))),
+        };
+        self.add(editor, edit)?;
+        Ok(None)
     }
 
     /// An edit of the editor waits after its others. After out of memory, which is the only refusal, they are given up.
@@ -120,9 +111,27 @@ impl Interpreter {
         ensures edits { (p : Pending) → Holds self.old p → result.items ≡ p editor }
         ensures left { (p : Pending) → Holds self.old p → Holds self.new (without p editor) }
     {
-        match self.waiting.remove(&editor) {
-            Some(edits) => edits,
-            None => Vec::new(self.alloc),
-        }
+        self.waiting.remove(&editor).unwrap_or(Vec::new(self.alloc))
     }
+}
+
+/// A file of `size` bytes, at most 16,777,217, of which byte i is `from` + 7i + i/256 modulo 256, the quotient rounded down.
+///
+/// Out of memory is the only refusal.
+fn filled(alloc: Global, size: u32, from: u8) -> Result<Blob, NoMemory>
+    requires { size ≤ MOST_FILLED }
+    ensures { IfOk result (λ content. content ≡ lines.filled_bytes size from) }
+{
+    let mut bytes = Vec::with_capacity(alloc, size as usize)?;
+    for place in 0..size {
+        bytes.push(filled_byte(from, place))?;
+    }
+    Blob::new(alloc, bytes)
+}
+
+fn filled_byte(from: u8, place: u32) -> u8
+    requires { place < MOST_FILLED }
+    ensures { result ≡ lines.filled_byte from place }
+{
+    ((u32::from(from) + 7 * place + place / 256) % 256) as u8
 }

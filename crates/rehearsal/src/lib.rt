@@ -19,13 +19,10 @@
 //! ```
 #![tactic(auto)]
 
-mod filling;
 mod interpreter;
 mod rehearsal;
 mod report;
-mod subject;
-mod told;
 
 pub use interpreter::{Happening, Interpreter};
 pub use rehearsal::rehearse;
-pub use told::put_report;
+pub use report::put_report;

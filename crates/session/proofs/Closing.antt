@@ -1,8 +1,9 @@
 -- One call of the station more in an actor's chain; and the catalogue once all passes are back, with the draws that come then.
-use Rattle.session.proofs.Words.{◌≡◌, ℕ, suc, ◌+◌, ◌<◌, ◌≤◌, Bool, true, false, nat_le, List, [], ◌∷◌, ◌++◌, map, length, Ok, refl, ap, sym, ◌∙◌, subst, arith, append_assoc, append-nil, cond, Result, Err, slice_index_or, All, Vec, Global, map-append, leb-false, Shot, Edit, Fate, Begins, total, times, once_within, IsPassOf, number_of, Pass, Kept, KeptItem, Station, IsStationPass, AreAllPasses, pass_count, carousel_of, weights_of, entries_seen, owners_of, CatalogueState, IsHistory, with_draw, current_of, cursor_of, items_drawn, with_commit, IsDrawn, BatchFields, view_batch, IsCommitted, Batch, Entry, DownlinkState, Step, Drawing, drawing_of, fates_view, Seen, seen_in, Commits, Draws, DrawFields, nothing_seen, GoesOnWith, seen_after, HasShown, HasCommitted, HasFed, drawing_in, WouldBeEntered, EditorSeat, FeederSeat, commits_by, settling_lines, AllCommitted, ActorsGather, GatherGrows, IsGathered, ClosedFields, EditorsDone, HasGathered, drawn_all, InOneHold}
+use Rattle.session.proofs.Words.{numbers_of, ◌≡◌, ℕ, suc, ◌+◌, ◌<◌, Bool, true, false, nat_le, List, [], ◌∷◌, ◌++◌, map, length, Ok, refl, ap, sym, ◌∙◌, subst, arith, append_assoc, append-nil, cond, Result, Err, slice_index_or, All, Vec, Global, map-append, leb-false, Shot, Edit, Fate, Begins, total, times, once_within, IsPassOf, number_of, Pass, Kept, KeptItem, Station, IsStationPass, AreAllPasses, pass_count, carousel_of, weights_of, entries_seen, owners_of, CatalogueState, IsHistory, with_draw, current_of, cursor_of, items_drawn, with_commit, IsDrawn, BatchFields, view_batch, IsCommitted, Batch, Entry, DownlinkState, Step, Drawing, drawing_of, fates_view, Seen, seen_in, Commits, Draws, DrawFields, nothing_seen, GoesOnWith, seen_after, HasShown, HasCommitted, HasFed, drawing_in, WouldBeEntered, EditorSeat, FeederSeat, commits_by, settling_lines, AllCommitted, ActorsGather, GatherGrows, IsGathered, GathersAll, GathersOn, HasGathered, settling_line, state, InOneHold}
 use Rattle.history_lock.specs.History as histories
 use Rattle.generation_catalogue.specs.History.{draws_of}
 use Rattle.generation_catalogue.specs.declared.entry.CommitFault.{CommitFault}
+use Rattle.session.specs.declared.ending.Closed.{Closed}
 use Rattle.generation_catalogue.specs.declared.entry.CommitFault.TheVariants as commits
 
 commits_push : (id : ℕ) (ws : List ℕ) (place : ℕ) (s : Seen) (lines : List (List Edit)) (edits : List Edit) (t : Seen) (c : CatalogueState) → Commits id ws place s lines t → GoesOnWith id ws t c
@@ -110,16 +111,14 @@ owners_seen : (place : ℕ) (editors : List EditorSeat) (p : Pass Kept KeptItem)
 owners_seen place [] p = refl
 owners_seen place (e ∷ editors) p = ap (λ (n : ℕ). times place (seen_in e.pass).own + n) (owners_seen place editors p)
 
-all_committed : {X : _} {F : _} {g : _} (s : Station X F g) (events : List Step) (place : ℕ) (numbers : List ℕ) (editors : List EditorSeat) → length editors ≡ length numbers
-    → ((k : ℕ) (d : EditorSeat) → k < length editors → HasCommitted s (place + k) (commits_by (slice_index_or numbers k 0) events) (slice_index_or editors k d).pass)
-    → AllCommitted (carousel_of s) (weights_of s) place (map (λ (n : ℕ). commits_by n events) numbers) (map seen_by_seat editors)
-all_committed s events place [] [] l h = tt
-all_committed s events place [] (e ∷ editors) l h = absurd (omega (arith, l))
-all_committed s events place (n ∷ numbers) [] l h = absurd (omega (arith, l))
-all_committed s events place (n ∷ numbers) (e ∷ editors) l h = (
-  subst (λ (k : ℕ). Commits (carousel_of s) (weights_of s) k nothing_seen (commits_by n events) (seen_in e.pass)) (here place) (h 0 e (omega arith)).commits,
-  all_committed s events (suc place) numbers editors (omega (arith, l))
-      (λ k d lt. subst (λ (i : ℕ). HasCommitted s i (commits_by (slice_index_or numbers k 0) events) (slice_index_or editors k d).pass) (later place k) (h (suc k) d (omega (arith, lt)))),
+all_committed : {X : _} {F : _} {g : _} (s : Station X F g) (events : List Step) (place : ℕ) (editors : List EditorSeat)
+    → ((k : ℕ) (d : EditorSeat) → k < length editors → HasCommitted s (place + k) (commits_by (slice_index_or editors k d).number events) (slice_index_or editors k d).pass)
+    → AllCommitted (carousel_of s) (weights_of s) place (map (λ (n : ℕ). commits_by n events) (numbers_of editors)) (map seen_by_seat editors)
+all_committed s events place [] h = tt
+all_committed s events place (e ∷ editors) h = (
+  subst (λ (k : ℕ). Commits (carousel_of s) (weights_of s) k nothing_seen (commits_by e.number events) (seen_in e.pass)) (here place) (h 0 e (omega arith)).commits,
+  all_committed s events (suc place) editors
+      (λ k d lt. subst (λ (i : ℕ). HasCommitted s i (commits_by (slice_index_or editors k d).number events) (slice_index_or editors k d).pass) (later place k) (h (suc k) d (omega (arith, lt)))),
 )
   where
     here : (n : ℕ) → n + 0 ≡ n
@@ -129,92 +128,62 @@ all_committed s events place (n ∷ numbers) (e ∷ editors) l h = (
     later n k = omega arith
 
 -- what the actors did is gathered in the catalogue
-pub gathered_of : ActorsGather → {X : _} {F : _} {g : _} (s : Station X F g) (editors : List EditorSeat) (feeder : FeederSeat) (passes : List (Pass Kept KeptItem)) (c : CatalogueState)
-    → passes ≡ map pass_in editors ++ feeder.pass ∷ []
-    → c.carousel ≡ carousel_of s → c.weights ≡ weights_of s → IsHistory c
-    → histories.Each (λ q. Begins (entries_seen q) c.entries) passes
-    → ((place : ℕ) → owners_of place passes ≡ once_within 0 (length c.entries) place)
-    → (numbers : List ℕ) (events : List Step) (draws : List DrawFields) (shots : List Shot) → EditorsDone s numbers events editors → HasFed s draws feeder shots
-    → HasGathered (carousel_of s) (weights_of s) (map (λ (n : ℕ). commits_by n events) numbers) draws shots (record { catalogue = c; downlink = feeder.downlink; fates = map fates_view feeder.fates.items })
-gathered_of law s editors feeder passes c all carousel weighs history seen owned numbers events draws shots done fed =
-    let commits = map (λ (n : ℕ). commits_by n events) numbers in record {
+pub gathered_of : ActorsGather → {X : _} {F : _} {g : _} {Y : _} {G : _} {h : _} (s : Station X F g) (editors : List EditorSeat) (feeder : FeederSeat) (passes : List (Pass Kept KeptItem)) (e : Closed Y G h)
+    → passes ≡ map pass_in editors ++ feeder.pass ∷ [] → e.downlink ≡ feeder.downlink → e.fates ≡ feeder.fates
+    → (state e.catalogue).carousel ≡ carousel_of s → (state e.catalogue).weights ≡ weights_of s → IsHistory (state e.catalogue)
+    → histories.Each (λ q. Begins (entries_seen q) (state e.catalogue).entries) passes
+    → ((place : ℕ) → owners_of place passes ≡ once_within 0 (length (state e.catalogue).entries) place)
+    → GathersAll s editors feeder e
+gathered_of law s editors feeder passes e all down fates carousel weighs history seen owned events draws shots done fed =
+    let c = state e.catalogue in let commits = map (λ (n : ℕ). commits_by n events) (numbers_of editors) in record {
       carousel = carousel;
       weighs = weighs;
       drawings = fed.drawings;
       gathered = law commits draws fed.drawings c (map seen_by_seat editors) (seen_in feeder.pass) history
           (subst (λ (ws : List ℕ). AllCommitted c.carousel ws 0 commits (map seen_by_seat editors)) (sym weighs)
           (subst (λ (id : ℕ). AllCommitted id (weights_of s) 0 commits (map seen_by_seat editors)) (sym carousel)
-          (all_committed s events 0 numbers editors done.0 (λ k d lt. subst (λ (i : ℕ). HasCommitted s i (commits_by (slice_index_or numbers k 0) events) (slice_index_or editors k d).pass) (from_zero k) (done.1 k d lt)))))
+          (all_committed s events 0 editors (λ k d lt. subst (λ (i : ℕ). HasCommitted s i (commits_by (slice_index_or editors k d).number events) (slice_index_or editors k d).pass) (from_zero k) (done k d lt)))))
           (subst (λ (ws : List ℕ). Draws c.carousel ws nothing_seen draws fed.drawings (seen_in feeder.pass)) (sym weighs)
           (subst (λ (id : ℕ). Draws id (weights_of s) nothing_seen draws fed.drawings (seen_in feeder.pass)) (sym carousel) fed.draws))
           (each_seen c.entries editors feeder.pass (subst (histories.Each (λ q. Begins (entries_seen q) c.entries)) all seen))
           (λ place. owners_seen place editors feeder.pass ∙ ap (owners_of place) (sym all) ∙ owned place);
-      shown = fed.shown;
-      fates = fed.fates;
+      shown = subst (λ (d : DownlinkState). HasShown fed.drawings d shots) (sym down) fed.shown;
+      fates = ap (λ (v : Vec (Vec Fate Global) Global). map fates_view v.items) fates ∙ fed.fates;
     }
   where
     from_zero : (k : ℕ) → k ≡ 0 + k
     from_zero k = omega arith
 
--- ---- one draw
-
-pub one_more : GatherGrows → (old : ClosedFields) (c : CatalogueState) (downlink : DownlinkState) (earlier kept : List (Vec Fate Global)) (asked : ℕ) (fates : Vec Fate Global) (given_fates : List Fate) (b : Batch)
-    (before after : List Shot) → old.fates ≡ map fates_view earlier → given_fates ≡ fates.items → 1 ≤ asked → asked ≤ 1048576 → IsDrawn old.catalogue asked (Ok b) c
-    → ((drawings : List Drawing) → HasShown drawings old.downlink before → HasShown (drawings ++ drawing_in b given_fates ∷ []) downlink after)
-    → kept ≡ earlier ++ fates ∷ []
-    → (id : ℕ) (weights : List ℕ) (commits : List (List (List Edit))) (draws : List DrawFields) → HasGathered id weights commits draws before old
-    → HasGathered id weights commits (draws ++ record { asked = asked; fates = fates.items } ∷ []) after (record { catalogue = c; downlink = downlink; fates = map fates_view kept })
-one_more law old c downlink earlier kept asked fates given_fates b before after had under least most h shows pushed id weights commits draws g =
-    let from = old.catalogue in let line : DrawFields = record { asked = asked; fates = fates.items } in
-    let fields : BatchFields = record { generation = current_of from; first = cursor_of from; items = items_drawn from asked } in
-    let parts = given (nat_le 16777216 (draws_of from)) 16777216 fields (view_batch b) h.answer in
-    let is : drawing_in b given_fates ≡ drawing_of from asked fates.items = ap (λ (x : BatchFields). drawing x given_fates) (sym parts.1) ∙ ap (drawing fields) under in
-    record {
-      carousel = ap (λ (x : CatalogueState). x.carousel) h.entry ∙ g.carousel;
-      weighs = ap (λ (x : CatalogueState). x.weights) h.entry ∙ g.weighs;
-      drawings = g.drawings ++ drawing_of from asked fates.items ∷ [];
-      gathered = subst (λ (x : CatalogueState). IsGathered commits (draws ++ line ∷ []) x (g.drawings ++ drawing_of from asked fates.items ∷ [])) (sym h.entry)
-          (law commits draws g.drawings from line g.gathered (leb-false 16777216 (draws_of from) parts.0) least most);
-      shown = subst (λ (x : Drawing). HasShown (g.drawings ++ x ∷ []) downlink after) is (shows g.drawings g.shown);
-      fates = ap (map fates_view) pushed ∙ map-append fates_view earlier (fates ∷ [])
-          ∙ (λ i. (sym had ∙ g.fates) i ++ fates.items ∷ []) ∙ sym (map-append (λ (l : DrawFields). l.fates) draws (line ∷ []));
-    }
-
 -- ---- the draws of `settle`
 
--- there are none
-module _ (b : Bool) (is : b ≡ false) where
-  pub none_counted : (n : ℕ) → n ≡ n + length (settling_lines b)
-  none_counted n = let e = ap (λ (x : Bool). length (settling_lines x)) is in omega (arith, e)
+module _ {X : _} {F : _} {g : _} where
+  pub one_more : GatherGrows → (old new : Closed X F g) (fates : Vec Fate Global) (given_fates : List Fate) (b : Batch) (before after : List Shot) → fates.items ≡ [] → given_fates ≡ fates.items
+      → IsDrawn (state old.catalogue) 1048576 (Ok b) (state new.catalogue)
+      → ((drawings : List Drawing) → HasShown drawings old.downlink before → HasShown (drawings ++ drawing_in b given_fates ∷ []) new.downlink after)
+      → new.fates.items ≡ old.fates.items ++ fates ∷ [] → GathersOn old new before after (settling_line ∷ [])
+  one_more law old new fates given_fates b before after none under h shows pushed id weights commits draws had =
+      let from = state old.catalogue in let fields : BatchFields = record { generation = current_of from; first = cursor_of from; items = items_drawn from 1048576 } in
+      let parts = given (nat_le 16777216 (draws_of from)) 16777216 fields (view_batch b) h.answer in
+      let is : drawing_in b given_fates ≡ drawing_of from 1048576 [] = ap (λ (x : BatchFields). drawing x given_fates) (sym parts.1) ∙ ap (drawing fields) (under ∙ none) in
+      record {
+        carousel = ap (λ (x : CatalogueState). x.carousel) h.entry ∙ had.carousel;
+        weighs = ap (λ (x : CatalogueState). x.weights) h.entry ∙ had.weighs;
+        drawings = had.drawings ++ drawing_of from 1048576 [] ∷ [];
+        gathered = subst (λ (x : CatalogueState). IsGathered commits (draws ++ settling_line ∷ []) x (had.drawings ++ drawing_of from 1048576 [] ∷ [])) (sym h.entry)
+            (law commits draws had.drawings from settling_line had.gathered (leb-false 16777216 (draws_of from) parts.0) (omega arith) (omega arith));
+        shown = subst (λ (x : Drawing). HasShown (had.drawings ++ x ∷ []) new.downlink after) is (shows had.drawings had.shown);
+        fates = ap (map fates_view) pushed ∙ map-append fates_view old.fates.items (fates ∷ [])
+            ∙ (λ i. had.fates i ++ none i ∷ []) ∙ sym (map-append (λ (l : DrawFields). l.fates) draws (settling_line ∷ []));
+      }
 
-  pub none_drawn : (c : CatalogueState) → c ≡ drawn_all c (settling_lines b)
-  none_drawn c = ap (λ (x : Bool). drawn_all c (settling_lines x)) (sym is)
-
-  pub none_gathered : (e : ClosedFields) (shots : List Shot) (id : ℕ) (weights : List ℕ) (commits : List (List (List Edit))) (draws : List DrawFields) → HasGathered id weights commits draws shots e
-      → HasGathered id weights commits (draws ++ settling_lines b) shots e
-  none_gathered e shots id weights commits draws h =
+  pub none_more : (b : Bool) → b ≡ false → (e : Closed X F g) (shots : List Shot) → GathersOn e e shots shots (settling_lines b)
+  none_more b is e shots id weights commits draws h =
       subst (λ (ds : List DrawFields). HasGathered id weights commits ds shots e) (sym (ap (λ (x : Bool). draws ++ settling_lines x) is ∙ append-nil draws)) h
 
--- there are two
-module _ (b : Bool) (is : b ≡ true) where
-  pub one_has_room : (shots most : ℕ) → shots + length (settling_lines b) ≤ most + 1 → shots + 1 ≤ most
-  one_has_room shots most room = let e = ap (λ (x : Bool). length (settling_lines x)) is in omega (arith, e, room)
-
-  pub two_counted : (first mid last : ℕ) → mid ≡ first + 1 → last ≡ mid + 1 → last ≡ first + length (settling_lines b)
-  two_counted first mid last one two = let e = ap (λ (x : Bool). length (settling_lines x)) is in omega (arith, e, one, two)
-
-  pub two_drawn : (c d e : CatalogueState) → d ≡ with_draw c 1048576 → e ≡ with_draw d 1048576 → e ≡ drawn_all c (settling_lines b)
-  two_drawn c d e one two = two ∙ ap (λ (x : CatalogueState). with_draw x 1048576) one ∙ ap (λ (x : Bool). drawn_all c (settling_lines x)) (sym is)
-
-  pub two_gathered : (e0 e1 e2 : ClosedFields) (before mid after : List Shot) (first second : List Fate) → first ≡ [] → second ≡ []
-      → ((id : ℕ) (weights : List ℕ) (commits : List (List (List Edit))) (draws : List DrawFields) → HasGathered id weights commits draws before e0 → HasGathered id weights commits (draws ++ record { asked = 1048576; fates = first } ∷ []) mid e1)
-      → ((id : ℕ) (weights : List ℕ) (commits : List (List (List Edit))) (draws : List DrawFields) → HasGathered id weights commits draws mid e1 → HasGathered id weights commits (draws ++ record { asked = 1048576; fates = second } ∷ []) after e2)
-      → (id : ℕ) (weights : List ℕ) (commits : List (List (List Edit))) (draws : List DrawFields) → HasGathered id weights commits draws before e0 → HasGathered id weights commits (draws ++ settling_lines b) after e2
-  two_gathered e0 e1 e2 before mid after first second f g one two id weights commits draws h =
-      let line : List Fate → DrawFields = λ fates. record { asked = 1048576; fates = fates } in
-      subst (λ (ds : List DrawFields). HasGathered id weights commits ds after e2)
-      (append_assoc draws (line first ∷ []) (line second ∷ []) ∙ (λ i. draws ++ line (f i) ∷ line (g i) ∷ []) ∙ ap (λ (x : Bool). draws ++ settling_lines x) (sym is))
-      (two id weights commits (draws ++ line first ∷ []) (one id weights commits draws h))
+  pub two_more : (b : Bool) → b ≡ true → (e0 e1 e2 : Closed X F g) (before mid after : List Shot) → GathersOn e0 e1 before mid (settling_line ∷ []) → GathersOn e1 e2 mid after (settling_line ∷ [])
+      → GathersOn e0 e2 before after (settling_lines b)
+  two_more b is e0 e1 e2 before mid after one two id weights commits draws h = subst (λ (ds : List DrawFields). HasGathered id weights commits ds after e2)
+      (append_assoc draws (settling_line ∷ []) (settling_line ∷ []) ∙ ap (λ (x : Bool). draws ++ settling_lines x) (sym is)) (two id weights commits (draws ++ settling_line ∷ []) (one id weights commits draws h))
 
 -- the passes that go back are all of the station
 pub all_passes : {X : _} {F : _} {g : _} (s : Station X F g) (editors : List EditorSeat) (feeder : FeederSeat) (passes : List (Pass Kept KeptItem)) → passes ≡ map pass_in editors ++ feeder.pass ∷ []

@@ -1,5 +1,5 @@
 -- What an actor of a station enters, one entry after another.
-use Rattle.session.proofs.Words.{◌≡◌, ℕ, ◌-◌, ◌<◌, ◌==◌, Bool, true, false, cond, List, [], ◌∷◌, ◌++◌, length, Some, slice_get, ◌⊎◌, inl, inr, sym, ap, ◌∙◌, refl, subst, arith, append-nil, length-append, cases_Bool, dite, ℕ_discrete, Edit, Begins, times, places, CatalogueState, with_commit, with_draw, current_of, cursor_of, count_drawn, outcome_of, is_entered, with_entry, is_draw, Entry, Drawing, Each, is_commit_at, get_next, Seen, seen_after, Commits, Draws, DrawFields}
+use Rattle.session.proofs.Words.{◌≡◌, ℕ, ◌-◌, ◌<◌, ◌==◌, Bool, true, false, cond, List, [], ◌∷◌, ◌++◌, length, Some, slice_get, ◌⊎◌, inl, inr, sym, ap, ◌∙◌, refl, subst, arith, append-nil, length-append, cases_Bool, dite, ℕ_discrete, Edit, Begins, times, places, CatalogueState, with_draw, current_of, cursor_of, count_drawn, outcome_of, is_entered, with_entry, is_draw, Entry, Drawing, Each, is_commit_at, get_next, Seen, seen_after, Commits, Draws, DrawFields}
 use Rattle.generation_catalogue.specs.declared.entry.Entry.TheVariants as entries
 use Rattle.session.proofs.Lists.{begins_self, begins_more, begins_on, begins_le, begins_get, times_append, times_other}
 
@@ -49,29 +49,6 @@ enters_own P s (e ∷ es) t history h each begins k more = let before = h.0 in l
 
 -- ---- a commit
 
--- what a commit leaves is seen with its entry, or without one
-pub after_commit : (s : Seen) (c : CatalogueState) (place : ℕ) (edits : List Edit)
-    → ((is_entered (outcome_of c edits) ≡ true) × (seen_after s c (with_commit c place edits) ≡ seen_with s c.entries (entries.Commit place edits (outcome_of c edits))))
-    ⊎ ((is_entered (outcome_of c edits) ≡ false) × (seen_after s c (with_commit c place edits) ≡ seen_of s c.entries))
-after_commit s c place edits = elim (cases_Bool (is_entered (outcome_of c edits))) [
-  | inl is ↦ inl (
-    is,
-    ap (λ (b : Bool). seen_after s c (cond b (with_entry c (entries.Commit place edits (outcome_of c edits))) c)) is
-        ∙ (λ i. record { entries = c.entries ++ entries.Commit place edits (outcome_of c edits) ∷ []; own = s.own ++ places (length c.entries) (one i) }),
-  )
-  | inr is ↦ inr (
-    is,
-    ap (λ (b : Bool). seen_after s c (cond b (with_entry c (entries.Commit place edits (outcome_of c edits))) c)) is
-        ∙ (λ i. record { entries = c.entries; own = s.own ++ places (length c.entries) (none i) })
-        ∙ (λ i. record { entries = c.entries; own = append-nil s.own i }),
-  )
-] where
-  one : length (c.entries ++ entries.Commit place edits (outcome_of c edits) ∷ []) - length c.entries ≡ 1
-  one = omega (arith, length-append c.entries (entries.Commit place edits (outcome_of c edits) ∷ []))
-
-  none : length c.entries - length c.entries ≡ 0
-  none = omega arith
-
 -- one commit more: it was entered, or it found no room
 abbrev pub Commits1 : (id : ℕ) (weights : List ℕ) (place : ℕ) → Seen → List Edit → List (List Edit) → Seen → CatalogueState → Type 0
 Commits1 id ws place s edits lines t c =
@@ -80,13 +57,25 @@ Commits1 id ws place s edits lines t c =
 
 pub first_commit : (id : ℕ) (ws : List ℕ) (place : ℕ) (s : Seen) (edits : List Edit) (lines : List (List Edit)) (t : Seen) → (h : Commits id ws place s (edits ∷ lines) t)
     → Commits1 id ws place s edits lines t h.0
-first_commit id ws place s edits lines t h = by (after_commit s h.0 place edits)
-  where
-    by : ((is_entered (outcome_of h.0 edits) ≡ true) × (seen_after s h.0 (with_commit h.0 place edits) ≡ seen_with s (h.0).entries (entries.Commit place edits (outcome_of h.0 edits))))
-        ⊎ ((is_entered (outcome_of h.0 edits) ≡ false) × (seen_after s h.0 (with_commit h.0 place edits) ≡ seen_of s (h.0).entries))
-        → Commits1 id ws place s edits lines t h.0
-    by (inl e) = inl (e.0, subst (λ (u : Seen). Commits id ws place u lines t) e.1 h.2)
-    by (inr e) = inr (e.0, subst (λ (u : Seen). Commits id ws place u lines t) e.1 h.2)
+first_commit id ws place s edits lines t h = elim (cases_Bool (is_entered (outcome_of h.0 edits))) [
+  | inl is ↦ inl (is, subst (λ (u : Seen). Commits id ws place u lines t) (ap after is ∙ (λ i. record { entries = (h.0).entries ++ entry ∷ []; own = s.own ++ places (length (h.0).entries) (one i) })) h.2)
+  | inr is ↦ inr (
+    is,
+    subst (λ (u : Seen). Commits id ws place u lines t)
+        (ap after is ∙ (λ i. record { entries = (h.0).entries; own = s.own ++ places (length (h.0).entries) (none i) }) ∙ (λ i. record { entries = (h.0).entries; own = append-nil s.own i })) h.2,
+  )
+] where
+  entry : Entry
+  entry = entries.Commit place edits (outcome_of h.0 edits)
+
+  after : Bool → Seen
+  after b = seen_after s h.0 (cond b (with_entry h.0 entry) h.0)
+
+  one : length ((h.0).entries ++ entry ∷ []) - length (h.0).entries ≡ 1
+  one = omega (arith, length-append (h.0).entries (entry ∷ []))
+
+  none : length (h.0).entries - length (h.0).entries ≡ 0
+  none = omega arith
 
 abbrev pub IsCommitAt : ℕ → Entry → Type 0
 IsCommitAt place e = is_commit_at place e ≡ true

@@ -27,15 +27,10 @@ drawings_past id ws before fates (entries.Commit editor edits outcome ∷ xs) ys
 drawings_past id ws before fates (entries.Draw asked generation first count ∷ xs) ys h = let f = (first_fails is_draw (entries.Draw asked generation first count) xs h).0 in absurd (cc)
 
 asked_none : (xs : List Entry) → filter is_draw xs ≡ [] → asked_in xs ≡ []
-asked_none [] h = refl
-asked_none (entries.Commit editor edits outcome ∷ xs) h = asked_none xs (first_fails is_draw (entries.Commit editor edits outcome) xs h).1
-asked_none (entries.Draw asked generation first count ∷ xs) h = let f = (first_fails is_draw (entries.Draw asked generation first count) xs h).0 in absurd (cc)
+asked_none xs h = ap asked_in (sym (append-nil xs)) ∙ asked_past xs [] h
 
 drawings_none : (id : ℕ) (ws : List ℕ) (before : List Entry) (fates : List (List Fate)) (xs : List Entry) → filter is_draw xs ≡ [] → drawings_after id ws before fates xs ≡ []
-drawings_none id ws before fates [] h = refl
-drawings_none id ws before fates (entries.Commit editor edits outcome ∷ xs) h =
-    drawings_none id ws (before ++ entries.Commit editor edits outcome ∷ []) fates xs (first_fails is_draw (entries.Commit editor edits outcome) xs h).1
-drawings_none id ws before fates (entries.Draw asked generation first count ∷ xs) h = let f = (first_fails is_draw (entries.Draw asked generation first count) xs h).0 in absurd (cc)
+drawings_none id ws before fates xs h = ap (drawings_after id ws before fates) (sym (append-nil xs)) ∙ drawings_past id ws before fates xs [] h
 
 -- a draw on a history is a drawing of it
 drawing_on : (id : ℕ) (ws : List ℕ) (c : CatalogueState) (before : List Entry) (asked : ℕ) (fates : List Fate) → c.carousel ≡ id → c.weights ≡ ws → c.entries ≡ before

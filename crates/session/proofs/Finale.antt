@@ -1,14 +1,14 @@
 -- From what is left of a session to the whole of it.
-use Rattle.session.proofs.Words.{◌≡◌, ℕ, suc, ◌+◌, ◌≤◌, ◌==◌, Bool, List, [], ◌∷◌, ◌++◌, map, length, refl, ap, sym, ◌∙◌, subst, arith, append-nil, inl, inr, slice_index_or, is_some, All, count_by, Vec, Global, cases_Bool, PathNames, Edit, Fate, Shot, Book, ReaderView, Station, carousel_of, weights_of, Entry, Step, Commit, Draw, Open, Stage, Fields, script_of_parts, events_of, merge_of, fates_view, AreParts, DrawFields, Asked, HasOpened, HasFed, asked_at, EditorSeat, FeederSeat, ReaderSeat, commits_by, draws_in, asked_from, asked_of, is_draw_before, opens_by, at_end, end_steps, settling_lines, steps, IsGathered, IsPlayed, AllRead, PlayedIsASession, fates_of, IsSession, Setting, done_in, draws_before, draws_of, readers_of, AllReadLast, AreDone, ClosedFields, EditorsDone, HasGathered, HasOpenedLast, MayOpenLast, ReaderDone, drawn_all}
+use Rattle.session.proofs.Words.{numbers_of, ◌≡◌, ℕ, suc, ◌+◌, ◌≤◌, ◌==◌, Bool, true, List, [], ◌∷◌, ◌++◌, map, length, refl, ap, sym, ◌∙◌, subst, arith, append-nil, inl, inr, is_some, All, count_by, Vec, Global, cases_Bool, recursion_from_All, IsPrefix, prefix_length, prefix_whole, PathNames, Edit, Fate, Shot, ReaderView, IsSameReader, AllAnswered, OpenEntry, Station, carousel_of, weights_of, state, Entry, Step, Commit, Draw, Open, Stage, Fields, script_of_parts, events_of, fates_view, DrawFields, Asked, AreOpened, HasOpened, Rises, DidRead, asked_at, ReaderSeat, Cast, commits_by, draws_in, asked_from, asked_of, is_draw_before, opens_by, at_end, end_steps, settling_lines, steps, IsGathered, IsPlayed, IsSettled, FitsAndTells, HasRead, PlayedIsASession, fates_of, whose, Setting, done_in, draws_before, draws_of, readers_of, AreAll, AreDone, GathersAll, GathersOn, HasGathered, ReaderDone}
+use Rattle.session.specs.declared.ending.Closed.{Closed}
 use Rattle.session.proofs.Begun.{draws_count as drawings_count}
 use Rattle.session.proofs.Parted.{commits_at_end, draws_at_end, events_parts, settle_there, staged_parts}
 use Rattle.session.proofs.Reading.{asked_count, opened_count}
 use Rattle.session.proofs.Staged.{asked_more, commits_more, count_all, draws_more, opens_more, steps_done}
 
--- the parts of a merge fit together, and it tells a session of the script
-abbrev pub FitsAndTells : List ℕ → Fields → List ℕ → List Entry → List (List Fate) → List ReaderView → Type 0
-FitsAndTells weights script numbers entries fates passes =
-    AreParts entries fates numbers passes × IsSession weights script (merge_of numbers passes fates entries)
+rises_on : (first : ℕ) (opens : List OpenEntry) (last more : ℕ) → last ≤ more → Rises first opens last → Rises first opens more
+rises_on first [] last more le h = omega (arith, le, h)
+rises_on first (e ∷ es) last more le h = (h.0, rises_on (e.shot + 1) es last more le h.1)
 
 -- ---- the events
 
@@ -49,109 +49,94 @@ module _ (setting : Setting) where
       ∙ ap (λ (zs : List Asked). asked_from r b a 0 done ++ zs) (asked_last r b a (0 + length (draws_in (steps done))) ends))
       ∙ ap (λ (es : List (Stage × Step)). asked_from r (count_by is_draw_before es) (length (draws_in (steps es))) 0 es) (sym (staged_parts setting.parts))
 
-  -- each reader has room for what it opens at the end
-  may_open : (board : Book) (shots : List Shot) (readers : List ReaderSeat) → board ≡ setting.board → length shots ≡ draws_of setting + 1
-      → All (ReaderDone setting) readers → All (MayOpenLast board shots) readers
-  may_open board shots readers same last all = λ k d lt. one (slice_index_or readers k d) (all k d lt)
-    where
-      one : (seat : ReaderSeat) → ReaderDone setting seat → MayOpenLast board shots seat
-      one seat h = let r = seat.pass.reader in let most = h.most_is in
-          let opened = opened_count (asked_from r (draws_before setting) (draws_of setting) 0 done) seat.pass.opens h.opened.opened in
-          let asked = asked_count r (draws_before setting) (draws_of setting) 0 done in let paths = ap (λ (ps : List PathNames). length ps) h.finales in
-          let every = count_all (opens_by r) (opens_more r) setting in let room = h.room in record {
-            board_is = h.board_is ∙ sym same;
-            last = omega (arith, last, most);
-            few = h.few;
-            room = omega (arith, opened, asked, paths, every, room);
-          }
+  -- ---- a reader at the end
 
-  one_read : (shots : List Shot) (old : ReaderSeat) (new : ReaderView) → ReaderDone setting old → HasOpenedLast shots old.finales.items old.pass new → HasOpened (asked_of old.pass.reader script) new
-  one_read shots old new d h = let r = old.pass.reader in subst (λ (all : List Asked). HasOpened all new)
-      ((λ i. asked_from r (draws_before setting) (draws_of setting) 0 done ++ map (asked_at (d.most_is i)) (d.finales i)) ∙ asked_split r)
-      (h.opened (asked_from r (draws_before setting) (draws_of setting) 0 done) d.opened)
+  module _ (shots : List Shot) (seat : ReaderSeat) (d : ReaderDone setting seat) (all : AreAll setting shots) (told looked : ReaderView)
+      (learned : IsSameReader seat.pass told × (told.known ≡ seat.pass.known) × (told.opens ≡ seat.pass.opens))
+      (took : IsSameReader told looked × (looked.told ≡ told.told) × (looked.opens ≡ told.opens)) where
+    abbrev reader : ℕ
+    reader = seat.pass.reader
 
-  all_read : (shots : List Shot) (olds : List ReaderSeat) (news : List ReaderView) → All (ReaderDone setting) olds → AllReadLast shots olds news → AllRead script shots (readers_of olds) news
-  all_read shots [] [] d h = tt
-  all_read shots [] (new ∷ news) d h = absurd h
-  all_read shots (old ∷ olds) [] d h = absurd h
-  all_read shots (old ∷ olds) (new ∷ news) d h = let first = (h.0).opened in (
-    first.same.0,
-    one_read shots old new (d 0 old (omega arith)) first,
-    first.known,
-    (h.0).answered,
-    all_read shots olds news (λ k e lt. d (suc k) e (omega (arith, lt))) h.1,
-  )
+    abbrev before : List Asked
+    before = asked_from reader (draws_before setting) (draws_of setting) 0 done
+
+    -- it has room for what it opens then
+    pub may_read : length looked.opens + length seat.finales.items ≤ looked.room
+    may_read = let opened = opened_count before seat.pass.opens d.opened.opened in let asked = asked_count reader (draws_before setting) (draws_of setting) 0 done in
+        let paths = ap (λ (ps : List PathNames). length ps) d.finales in let every = count_all (opens_by reader) (opens_more reader) setting in
+        let room = took.0.1 ∙ learned.0.1 ∙ d.room in let made = ap (λ (es : List OpenEntry). length es) (took.2 ∙ learned.2) in omega (arith, opened, asked, paths, every, room, made)
+
+    -- it was told of all shots and took the last one; then it opens its paths
+    pub reads_last : IsPrefix shots told.told → IsPrefix told.known looked.known × (length looked.known ≤ looked.most + 1) → IsPrefix told.told looked.known
+        → (ready last : ReaderSeat) → DidRead ready last → ready.pass ≡ looked → ready.paths.items ≡ seat.finales.items → last.whole ≡ true → AllAnswered last.pass.known last.pass.opens → HasRead script shots last.pass
+    reads_last heard know up ready last did now finales whole answered =
+        let full : length shots ≡ draws_of setting + 1 = all in let most : looked.most ≡ draws_of setting = took.0.3 ∙ learned.0.3 ∙ d.most_is in let same : last.pass.reader ≡ reader = did.same.0 ∙ ap (λ (v : ReaderView). v.reader) now ∙ took.0.0 ∙ learned.0.0 in
+        let listed = prefix_length shots told.told heard in let further = prefix_length told.told looked.known up in let few = know.1 in
+        let first : shots ≡ told.told = prefix_whole shots told.told heard (omega (arith, full, further, few, most)) in
+        let second : told.told ≡ looked.known = prefix_whole told.told looked.known up (omega (arith, full, listed, few, most)) in
+        let known : ready.pass.known ≡ shots = ap (λ (v : ReaderView). v.known) now ∙ sym (first ∙ second) in
+        let count = ap (λ (ss : List Shot). length ss) known in let limit = ap (λ (v : ReaderView). v.most) now in let later = did.same.3 in
+        let still : ready.pass.known ≡ last.pass.known =
+        prefix_whole ready.pass.known last.pass.known did.known (let upto = did.most (omega (arith, count, full, limit, most)) in omega (arith, upto, count, full, limit, most, later)) in
+        let opened : HasOpened before ready.pass = subst (λ (v : ReaderView). HasOpened before v) (sym now) (record {
+          opened = subst (λ (es : List OpenEntry). AreOpened before es) (sym (took.2 ∙ learned.2)) d.opened.opened;
+          rises = subst (λ (es : List OpenEntry). Rises 0 es (length looked.known)) (sym (took.2 ∙ learned.2))
+              (rises_on 0 seat.pass.opens (length seat.pass.known) (length looked.known) (let n = prefix_length told.known looked.known know.0 in let m = ap (λ (ss : List Shot). length ss) learned.1 in omega (arith, n, m)) d.opened.rises);
+        }) in
+        let heard_all : draws_of setting + 1 ≤ length ready.pass.told = (let t = ap (λ (v : ReaderView). length v.told) now in let k = ap (λ (ss : List Shot). length ss) took.1 in omega (arith, t, k, listed, full)) in record {
+          opened = subst (λ (asked : List Asked). HasOpened asked last.pass)
+              (ap (λ (ps : List PathNames). before ++ map (asked_at (draws_of setting)) ps) (finales ∙ d.finales) ∙ asked_split reader ∙ ap (λ (r : ℕ). asked_of r script) (sym same))
+              (did.whole whole (draws_of setting) before heard_all opened);
+          known = sym still ∙ known;
+          answered = subst (λ (ss : List Shot). AllAnswered ss last.pass.opens) (sym still ∙ known) answered;
+        }
 
   -- ---- all of it
 
-  module _ {X : _} {F : _} {g : _} (s : Station X F g) (settling : Bool) (numbers : List ℕ) (editors : List EditorSeat) (feeder : FeederSeat) (readers : List ReaderSeat) (first : List Shot)
-      (d : AreDone setting settling s numbers editors feeder readers first) where
+  module _ {X : _} {F : _} {g : _} (s : Station X F g) (settling : Bool) (numbers : List ℕ) (first : List Shot) (cast : Cast) (d : AreDone setting settling s numbers first cast) where
     settle_count : length (settling_lines settling) ≡ length (settling_lines (is_some setting.parts.settle))
     settle_count = ap (λ (b : Bool). length (settling_lines b)) d.settled
 
     -- one shot was shown before the draws and one after each
     shown_count : length first ≡ length (draws_in (steps done)) + 1
-    shown_count = let shots = d.fed.shown.shown.count in
-        let drawings = drawings_count (carousel_of s) (weights_of s) _ _ (draws_in (steps done)) d.fed.drawings d.fed.draws in omega (arith, shots, drawings)
+    shown_count = let fed = d.done.fed in let shots = fed.shown.shown.count in
+        let drawings = drawings_count (carousel_of s) (weights_of s) _ _ (draws_in (steps done)) fed.drawings fed.draws in omega (arith, shots, drawings)
 
     pub may_draw : (most : ℕ) → most ≡ draws_of setting → length first + length (settling_lines settling) ≤ most + 1
     may_draw most is = let shots = shown_count in let all = draws_count in let same = settle_count in omega (arith, shots, all, same, is)
 
-    pub may_read : (board before : Book) (shots : List Shot) → before ≡ setting.board → board ≡ before → length shots ≡ length first + length (settling_lines settling)
-        → All (MayOpenLast board shots) readers
-    may_read board before shots is same shown = let count = shown_count in let all = draws_count in let settled = settle_count in
-        may_open board shots readers (same ∙ is) (omega (arith, shown, count, all, settled)) d.read
+    pub all_shown : (shots : List Shot) → length shots ≡ length first + length (settling_lines settling) → AreAll setting shots
+    all_shown shots shown = let count = shown_count in let all = draws_count in let settled = settle_count in omega (arith, shown, count, all, settled)
 
-    module _ (e0 e1 : ClosedFields) (shots : List Shot) (news : List ReaderView)
-        (gathered : (numbers : List ℕ) (events : List Step) (draws : List DrawFields) (shots : List Shot) → EditorsDone s numbers events editors → HasFed s draws feeder shots
-        → HasGathered (carousel_of s) (weights_of s) (map (λ (n : ℕ). commits_by n events) numbers) draws shots e0)
-        (drew : e1.catalogue ≡ drawn_all e0.catalogue (settling_lines settling))
-        (went_on : (id : ℕ) (weights : List ℕ) (commits : List (List (List Edit))) (draws : List DrawFields) → HasGathered id weights commits draws first e0 → HasGathered id weights commits (draws ++ settling_lines settling) shots e1)
-        (read : AllReadLast shots readers news) where
+    module _ {Y : _} {G : _} {h : _} (e0 e1 : Closed Y G h) (shots : List Shot) (news : List ReaderView) (gathered : GathersAll s cast.editors.items cast.feeder e0)
+        (settled : settling ≡ true → IsSettled (state e1.catalogue)) (went_on : GathersOn e0 e1 first shots (settling_lines settling)) (shown : length shots ≡ length first + length (settling_lines settling))
+        (readers : whose news ≡ readers_of cast.readers.items) (read : (setting : Setting) → All (ReaderDone setting) cast.readers.items → AreAll setting shots → All (HasRead (script_of_parts setting.parts) shots) news) where
       abbrev draws_all : draws_in (steps done) ++ settling_lines settling ≡ draws_in (events_of script)
       draws_all = ap (λ (b : Bool). draws_in (steps done) ++ settling_lines b) d.settled ∙ draws_split
 
-      all_gathered : HasGathered (carousel_of s) (weights_of s) (map (λ (n : ℕ). commits_by n (steps done)) numbers) (draws_in (steps done) ++ settling_lines settling) shots e1
-      all_gathered = went_on (carousel_of s) (weights_of s) (map (λ (n : ℕ). commits_by n (steps done)) numbers) (draws_in (steps done))
-          (gathered numbers (steps done) (draws_in (steps done)) first d.committed d.fed)
+      all_gathered : HasGathered (carousel_of s) (weights_of s) (map (λ (n : ℕ). commits_by n (steps done)) (numbers_of cast.editors.items)) (draws_in (steps done) ++ settling_lines settling) shots e1
+      all_gathered = went_on (carousel_of s) (weights_of s) (map (λ (n : ℕ). commits_by n (steps done)) (numbers_of cast.editors.items)) (draws_in (steps done))
+          (gathered (steps done) (draws_in (steps done)) first d.done.committed d.done.fed)
 
-      is_played : IsPlayed script e1.catalogue all_gathered.drawings shots news
+      is_played : IsPlayed script (state e1.catalogue) all_gathered.drawings shots news
       is_played = record {
         carousel = all_gathered.carousel ∙ d.carousel;
-        gathered = subst (λ (commits : List (List (List Edit))). IsGathered commits (draws_in (events_of script)) e1.catalogue all_gathered.drawings)
-            (λ i. map (λ (n : ℕ). commits_split n i) (d.numbers_are i))
-            (subst (λ (draws : List DrawFields). IsGathered (map (λ (n : ℕ). commits_by n (steps done)) numbers) draws e1.catalogue all_gathered.drawings) draws_all all_gathered.gathered);
+        gathered = subst (λ (commits : List (List (List Edit))). IsGathered commits (draws_in (events_of script)) (state e1.catalogue) all_gathered.drawings)
+            (λ i. map (λ (n : ℕ). commits_split n i) (d.done.editors_are i))
+            (subst (λ (draws : List DrawFields). IsGathered (map (λ (n : ℕ). commits_by n (steps done)) (numbers_of cast.editors.items)) draws (state e1.catalogue) all_gathered.drawings) draws_all all_gathered.gathered);
         shown = all_gathered.shown.shown;
-        read = subst (λ (rs : List ℕ). AllRead script shots rs news) d.readers_are (all_read shots readers news d.read read);
-        settled = λ yes. (
-          e0.catalogue,
-          drew ∙ ap (λ (b : Bool). drawn_all e0.catalogue (settling_lines b)) (d.settled ∙ settle_there setting.parts yes),
-        );
+        readers_are = readers ∙ d.done.readers_are;
+        read = recursion_from_All (HasRead script shots) news (read setting d.done.read (all_shown shots shown));
+        settled = λ yes. settled (d.settled ∙ settle_there setting.parts yes);
       }
 
-      fates_are : e1.fates ≡ fates_of script
+      fates_are : map fates_view e1.fates.items ≡ fates_of script
       fates_are = all_gathered.fates ∙ ap (map (λ (line : DrawFields). line.fates)) draws_all
 
       -- what is merged fits together, and tells a session
-      pub tells : PlayedIsASession → FitsAndTells (weights_of s) script numbers e1.catalogue.entries e1.fates news
-      tells law = let es = e1.catalogue.entries in subst (λ (ws : List ℕ). FitsAndTells ws script numbers es e1.fates news) all_gathered.weighs
-          (subst (λ (fs : List (List Fate)). FitsAndTells e1.catalogue.weights script numbers es fs news) (sym fates_are)
-          (subst (λ (ns : List ℕ). FitsAndTells e1.catalogue.weights script ns es (fates_of script) news) (sym d.numbers_are)
-          (law setting.parts e1.catalogue all_gathered.drawings shots news d.ranges d.listed is_played)))
-
-pub ends_well : PlayedIsASession → {X : _} {F : _} {g : _} (s : Station X F g) (settling : Bool) (editors : List EditorSeat) (feeder : FeederSeat) (readers : List ReaderSeat) (read passes : List ReaderView)
-    (first shots : List Shot) (e0 e1 : ClosedFields) (fates : List (Vec Fate Global)) (entries : List Entry) (numbers : List ℕ)
-    → ((numbers : List ℕ) (events : List Step) (draws : List DrawFields) (shots : List Shot) → EditorsDone s numbers events editors → HasFed s draws feeder shots
-    → HasGathered (carousel_of s) (weights_of s) (map (λ (n : ℕ). commits_by n events) numbers) draws shots e0)
-    → e1.catalogue ≡ drawn_all e0.catalogue (settling_lines settling)
-    → ((id : ℕ) (weights : List ℕ) (commits : List (List (List Edit))) (draws : List DrawFields) → HasGathered id weights commits draws first e0 → HasGathered id weights commits (draws ++ settling_lines settling) shots e1)
-    → AllReadLast shots readers read
-    → passes ≡ read → map fates_view fates ≡ e1.fates → entries ≡ e1.catalogue.entries
-    → (setting : Setting) → AreDone setting settling s numbers editors feeder readers first
-    → FitsAndTells (weights_of s) (script_of_parts setting.parts) numbers entries (map fates_view fates) passes
-ends_well law s settling editors feeder readers read passes first shots e0 e1 fates entries numbers gathered drew went_on reads passes_is fates_is entries_is setting d =
-    let script = script_of_parts setting.parts in
-    subst (λ (es : List Entry). FitsAndTells (weights_of s) script numbers es (map fates_view fates) passes) (sym entries_is)
-    (subst (λ (fs : List (List Fate)). FitsAndTells (weights_of s) script numbers e1.catalogue.entries fs passes) (sym fates_is)
-    (subst (λ (ps : List ReaderView). FitsAndTells (weights_of s) script numbers e1.catalogue.entries e1.fates ps) (sym passes_is)
-    (tells setting s settling numbers editors feeder readers first d e0 e1 shots read gathered drew went_on reads law)))
+      pub ends_well : (entries : List Entry) (fates : List (Vec Fate Global)) (passes : List ReaderView) → entries ≡ (state e1.catalogue).entries → fates ≡ e1.fates.items → passes ≡ news → PlayedIsASession
+          → FitsAndTells (weights_of s) script numbers entries (map fates_view fates) passes
+      ends_well entries fates passes entries_is fates_is passes_is law =
+          subst (λ (x : List ℕ × List ℕ × List Entry × List (List Fate) × List ReaderView). FitsAndTells x.0 script x.1 x.2 x.3 x.4)
+          (λ i. (all_gathered.weighs i, sym d.numbers_are i, sym entries_is i, (sym fates_are ∙ sym (ap (map fates_view) fates_is)) i, sym passes_is i))
+          (law setting.parts (state e1.catalogue) all_gathered.drawings shots news setting.ranges setting.listed is_played)

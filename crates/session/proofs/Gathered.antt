@@ -1,8 +1,8 @@
 -- What a station's actors did, gathered to its whole history.
-use Rattle.session.proofs.Words.{◌≡◌, ℕ, zero, suc, ◌+◌, ◌<◌, true, List, [], ◌∷◌, ◌++◌, length, Some, slice_get, ◌⊎◌, inl, inr, sym, ap, ◌∙◌, refl, subst, arith, eqb-true, eq-eqb, slice_get_within, Edit, Begins, total, times, once_within, HistoriesGrow, is_draw, Entry, Drawing, IsPlaced, is_commit_at, Seen, nothing_seen, Commits, Draws, DrawFields, AllCommitted, AreEntered, ActorsGather}
+use Rattle.session.proofs.Words.{◌≡◌, ℕ, zero, suc, ◌+◌, ◌<◌, true, List, [], ◌∷◌, ◌++◌, length, Some, slice_get, ◌⊎◌, inl, inr, sym, ap, ◌∙◌, refl, subst, arith, eqb-true, eq-eqb, slice_get_within, get_next, Edit, Begins, total, times, once_within, HistoriesGrow, is_draw, Entry, Drawing, IsPlaced, is_commit_at, Seen, nothing_seen, Commits, Draws, DrawFields, AllCommitted, AreEntered, ActorsGather}
 use Rattle.history_lock.specs.History as histories
 use Rattle.generation_catalogue.specs.declared.entry.Entry.TheVariants as entries
-use Rattle.session.proofs.Lists.{get_one, get_last, total_some, once_inside, each_from_get}
+use Rattle.session.proofs.Lists.{get_front, get_one, get_last, total_some, once_inside, each_from_get}
 use Rattle.session.proofs.Entering.{HasEntered, IsCommitAt, IsDrawn, commits_enter, draws_enter, enters_own}
 use Rattle.session.proofs.Entered.{are_entered}
 use Rattle.session.proofs.Feeding.{AreDrawn, are_drawn}
@@ -110,20 +110,14 @@ module _ (id : ℕ) (ws : List ℕ) (history : List Entry) (editors : List (List
       by (inl o) = placed_commit (length editors) o.0 e o.2 o.4
       by (inr o) = placed_draw (length editors) e o.0
 
+  abbrev BeginsIt : Seen → Type 0
+  BeginsIt s = Begins s.entries history
+
   pub feeder_begins : Begins feeder.entries history
-  feeder_begins = last editors_seen seen
-    where
-      last : (ss : List Seen) → histories.Each (λ (s : Seen). Begins s.entries history) (ss ++ feeder ∷ []) → Begins feeder.entries history
-      last [] h = h.0
-      last (s ∷ ss) h = last ss h.1
+  feeder_begins = each_get BeginsIt (editors_seen ++ feeder ∷ []) (length editors_seen) feeder seen (get_next editors_seen [] feeder)
 
   pub editor_begins : (place : ℕ) (s : Seen) → slice_get editors_seen place ≡ Some s → Begins s.entries history
-  editor_begins place s at = first editors_seen place seen at
-    where
-      first : (ss : List Seen) (k : ℕ) → histories.Each (λ (s : Seen). Begins s.entries history) (ss ++ feeder ∷ []) → slice_get ss k ≡ Some s → Begins s.entries history
-      first [] k h g = absurd (cc)
-      first (x ∷ ss) zero h g = let e : x ≡ s = cc in subst (λ (u : Seen). Begins u.entries history) e h.0
-      first (x ∷ ss) (suc k) h g = first ss k h.1 g
+  editor_begins place s at = each_get BeginsIt (editors_seen ++ feeder ∷ []) place s seen (get_front editors_seen (feeder ∷ []) place s at)
 
   pub editors_lines : HistoriesGrow → (place : ℕ) (lines : List (List Edit)) → slice_get editors place ≡ Some lines → AreEntered place [] lines history
   editors_lines grow place lines at = let r = chain_at id ws 0 editors editors_seen all place lines at in let itself : 0 + place ≡ place = omega arith in

@@ -2,7 +2,6 @@ pub mod Words
 mod Lists
 pub mod Showing
 pub mod Opening
-pub mod Turning
 mod Entering
 mod Rooms
 mod Entered
@@ -11,7 +10,6 @@ mod Gathered
 mod Grown
 mod Telling
 mod Committed
-mod Scripted
 mod Settled
 mod InPlace
 mod Session
@@ -20,13 +18,10 @@ mod Staged
 mod Parted
 mod Taking
 mod Planning
-mod Counting
 mod Editing
 mod Reading
-mod Seated
 mod Events
 mod Doing
 mod Closing
-mod Lasting
 mod Finale
 mod Begun

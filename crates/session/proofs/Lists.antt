@@ -1,5 +1,5 @@
 -- What stands at a place of a list, how a list begins, and counts.
-use Rattle.session.proofs.Words.{◌≡◌, ◌≢◌, ℕ, zero, suc, ◌+◌, ◌<◌, ◌≤◌, Bool, true, false, cond, List, [], ◌∷◌, ◌++◌, length, filter, Some, slice_get, count_by, ◌⊎◌, inl, inr, sym, ap, ◌∙◌, refl, arith, append_assoc, append-nil, length-append, ne_eqb, sum_by-append, cond_both, cases_Bool, Begins, times, total, once_within, Each, filter_takes, filter_skips}
+use Rattle.session.proofs.Words.{◌≡◌, ◌≢◌, ℕ, zero, suc, ◌+◌, ◌<◌, ◌≤◌, Bool, true, false, cond, List, [], ◌∷◌, ◌++◌, length, filter, Some, map, map-append, slice_get, count_by, ◌⊎◌, inl, inr, sym, ap, ◌∙◌, refl, arith, append_assoc, append-nil, length-append, ne_eqb, sum_by-append, cond_both, cases_Bool, Begins, times, total, once_within, Each, filter_takes, filter_skips, dite, ℕ_discrete, subst, slice_index_or, slice_set, get_or_push, get_or_append_left, get_or-set_at, get_or-set_other, length-set, get_or_default, EachAt}
 use Rattle.std.proofs.lemmas.Bool.Decides.{nat_tests}
 
 module _ {A : Type 0} where
@@ -73,6 +73,39 @@ module _ {A : Type 0} where
 
   pub count_append : (p : A → Bool) (xs ys : List A) → count_by p (xs ++ ys) ≡ count_by p xs + count_by p ys
   count_append p xs ys = sum_by-append (λ y. cond {A = ℕ} (p y) 1 0) xs ys
+
+-- ---- what is so at each place
+
+module _ {A : Type 0} (P : ℕ → A → Type 0) (xs : List A) where
+  pub each_push : (x : A) → EachAt P xs → P (length xs) x → EachAt P (xs ++ x ∷ [])
+  each_push x all last = λ k d lt. dite (ℕ_discrete k (length xs))
+      (λ e. subst (P k) (sym (get_or_push xs x d k (sym e))) (subst (λ (n : ℕ). P n x) (sym e) last))
+      (λ ne. let below : k < length xs = let l = length-append xs (x ∷ []) in omega (arith, l, lt, ne) in
+      subst (P k) (sym (get_or_append_left xs (x ∷ []) d k below)) (all k d below))
+
+  pub each_set : (i : ℕ) (x : A) → i < length xs → P i x → ((k : ℕ) (d : A) → k < length xs → k ≢ i → P k (slice_index_or xs k d)) → EachAt P (slice_set xs i x)
+  each_set i x there here others = λ k d lt. dite (ℕ_discrete k i)
+      (λ e. subst (P k) (sym (get_or-set_at xs i k x d e there)) (subst (λ (n : ℕ). P n x) (sym e) here))
+      (λ ne. subst (P k) (sym (get_or-set_other xs i k x d ne)) (others k d (let l = length-set xs i x in omega (arith, l, lt)) ne))
+
+pub pushed_count : {A : Type 0} (xs ys : List A) (x : A) → ys ≡ xs ++ x ∷ [] → length ys ≡ length xs + 1
+pushed_count xs ys x e = ap length e ∙ length-append xs (x ∷ [])
+
+-- none of the elements so far has this number, and the next one has not either
+pub none_more : {A : Type 0} (f : A → ℕ) (n : ℕ) (xs : List A) (i : ℕ) (x : A) → i < length xs → x ≡ slice_index_or xs i x → f x ≢ n → ((k : ℕ) (d : A) → k < i → f (slice_index_or xs k d) ≢ n)
+    → (k : ℕ) (d : A) → k < i + 1 → f (slice_index_or xs k d) ≢ n
+none_more f n xs i x there is other past k d lt = dite (ℕ_discrete k i)
+    (λ e h. other (ap f (is ∙ sym (ap (λ (j : ℕ). slice_index_or xs j d) e ∙ get_or_default xs i d x there)) ∙ h)) (λ ne. past k d (omega (arith, lt, ne)))
+
+pub map_at : {A : Type 0} (f : A → ℕ) (xs : List A) (ns : List ℕ) → length xs ≡ length ns → EachAt (λ k x. f x ≡ slice_index_or ns k 0) xs → map f xs ≡ ns
+map_at f [] [] l h = refl
+map_at f (x ∷ xs) (n ∷ ns) l h = λ i. h 0 x (omega arith) i ∷ map_at f xs ns (omega (arith, l)) (λ k d lt. h (suc k) d (omega (arith, lt))) i
+map_at f [] (n ∷ ns) l h = absurd (omega (arith, l))
+map_at f (x ∷ xs) [] l h = absurd (omega (arith, l))
+
+-- one element more, after those that were mapped
+pub one_more : {A B : Type 0} (f : A → B) (before : List B) (done : List A) (x : A) → (before ++ map f done) ++ f x ∷ [] ≡ before ++ map f (done ++ x ∷ [])
+one_more f before done x = append_assoc before (map f done) (f x ∷ []) ∙ ap (λ l. before ++ l) (sym (map-append f done (x ∷ [])))
 
 -- ---- places
 

@@ -1,11 +1,16 @@
 -- The events of a script that parts make, part by part.
-use Rattle.session.proofs.Words.{◌≡◌, ℕ, List, [], ◌∷◌, ◌++◌, map, Bool, true, false, Option, Some, None, refl, sym, ap, ◌∙◌, append_assoc, is_some, ◌||◌, All, Contains, list_any, map-append, All-nil, All-head, All-tail, All-cons, All-append, TaskLine, Finale, Stage, Before, During, After, Act, LineFields, act_of, task_line, settle_lines, finale_line, script_of_parts, AreListed, IsMentioned, Step, Commit, Draw, Open, Pending, none_pending, pending_after, events_of, events_of_line, events_from, settling_step, DrawFields, commits_by, draws_in, is_settle, staged_events, staged_from, settles, opens_by, above, at_end, before_steps, below, during_steps, end_steps, events_at, finale_step, settling, settling_lines, steps, waiting_below}
-use Rattle.session_script.specs.declared.parts.Task.{Task}
-use Rattle.session_script.specs.declared.parts.Task.TheVariants as tasks
-use Rattle.session_script.specs.declared.parts.Parts.{Parts}
+use Rattle.session.proofs.Words.{suc, if◌then◌else◌, arith, subst, ne_eqb, length-append, get_or_append_left, Fields, asked_from, asked_of, all_draws, draws_before_start, least_for, settling_line, ◌≡◌, ℕ, List, [], ◌∷◌, ◌++◌, map, Bool, true, false, Option, Some, None, refl, sym, ap, ◌∙◌, append_assoc, is_some, ◌||◌, All, Contains, list_any, map-append, All-nil, All-head, All-tail, All-cons, All-append, TaskLine, Finale, Stage, Before, During, After, Act, LineFields, act_of, task_line, settle_lines, finale_line, script_of_parts, AreListed, IsMentioned, Step, Commit, Draw, Open, Pending, none_pending, pending_after, events_of, events_of_line, events_from, settling_step, DrawFields, commits_by, draws_in, is_settle, staged_events, staged_from, settles, opens_by, above, at_end, before_steps, below, during_steps, end_steps, events_at, finale_step, settling, settling_lines, steps, waiting_below}
+use Rattle.session_script.specs.declared.script.Task.{Task}
+use Rattle.session_script.specs.declared.script.Task.TheVariants as tasks
+use Rattle.session_script.specs.declared.script.Parts.{Parts}
 use Rattle.session_script.specs.Scripts as acts
-use Rattle.session.proofs.Scripted.{EndsDrawn}
+use Rattle.session.proofs.Committed.{HasNone, not_among}
 use Rattle.session.proofs.Staged.{draws_more, steps_more, unstaged}
+
+-- ---- the draws of `settle`
+
+abbrev pub EndsDrawn : List DrawFields → Type 0
+EndsDrawn ds = (earlier : List DrawFields) × (ds ≡ earlier ++ settling_line ∷ settling_line ∷ [])
 
 -- ---- with their stages
 
@@ -32,14 +37,10 @@ staged_parts p = let last = settle_lines p.settle ++ map finale_line p.finales.i
     (tasks_staged During mid p.during.items last ∙ ap (λ (es : List (Stage × Step)). below (during_steps p) ++ es) (ends_staged (waiting_below mid p.during.items) p.settle p.finales.items))
     ∙ sym (append_assoc (above (before_steps p)) (below (during_steps p)) (at_end (end_steps p)))
 
-second : (stage : Stage) (xs : List Step) (ys : List (Stage × Step)) → steps (map (λ (e : Step). (stage, e)) xs ++ ys) ≡ xs ++ steps ys
-second stage [] ys = refl
-second stage (x ∷ xs) ys = ap (λ (zs : List Step). x ∷ zs) (second stage xs ys)
-
 steps_from : (p : Pending) (lines : List LineFields) → steps (staged_from p lines) ≡ events_from p lines
 steps_from p [] = refl
-steps_from p (l ∷ lines) =
-    second l.stage (events_of_line p l.act) (staged_from (pending_after p l.act) lines) ∙ ap (λ (zs : List Step). events_of_line p l.act ++ zs) (steps_from (pending_after p l.act) lines)
+steps_from p (l ∷ lines) = steps_more (map (λ (e : Step). (l.stage, e)) (events_of_line p l.act)) (staged_from (pending_after p l.act) lines)
+    ∙ (λ i. unstaged l.stage (events_of_line p l.act) i ++ steps_from (pending_after p l.act) lines i)
 
 -- without them
 pub events_parts : (p : Parts) → events_of (script_of_parts p) ≡ (before_steps p ++ during_steps p) ++ end_steps p
@@ -117,7 +118,7 @@ settles_last p s = let first = before_steps p ++ during_steps p in (
   ap draws_in (events_parts p) ∙ draws_more first (end_steps p) ∙ ap (λ (ds : List DrawFields). draws_in first ++ ds) (draws_at_end p ∙ ap settling_lines (settle_there p s)),
 )
 
--- ---- whom the events above `start` are of
+-- ---- whom the events are of
 
 -- whom the event is of is among the script's editors or readers
 abbrev pub IsNamed : List ℕ → List ℕ → Step → Type 0
@@ -128,6 +129,9 @@ IsNamed editors readers (Open reader path) = Contains readers reader
 module _ (editors readers : List ℕ) where
   abbrev Named : Step → Type 0
   Named = IsNamed editors readers
+
+  abbrev Mentioned : LineFields → Type 0
+  Mentioned l = IsMentioned editors readers l.act
 
   one : (p : Pending) (act : Act) → IsMentioned editors readers act → All Named (events_of_line p act)
   one p (acts.Put editor path content) m = All-nil Named
@@ -140,13 +144,31 @@ module _ (editors readers : List ℕ) where
   one p (acts.Open reader path) m = All-cons Named (Open reader path) [] m (All-nil Named)
   one p acts.Settle m = All-cons Named settling_step (settling_step ∷ []) tt (All-cons Named settling_step [] tt (All-nil Named))
 
-  tasks_named : (p : Pending) (ts : List TaskLine) (rest : List LineFields) → All (λ (l : LineFields). IsMentioned editors readers l.act) (map (task_line Before) ts ++ rest)
-      → All Named (events_at p ts)
-  tasks_named p [] rest h = All-nil Named
-  tasks_named p (t ∷ ts) rest h = let M : LineFields → Type 0 = λ l. IsMentioned editors readers l.act in let line = task_line Before t in
-      let left = map (task_line Before) ts ++ rest in All-append Named (events_of_line p (act_of t.task)) (events_at (pending_after p (act_of t.task)) ts)
-      (one p (act_of t.task) (All-head M line left h)) (tasks_named (pending_after p (act_of t.task)) ts rest (All-tail M line left h))
+  all_named : (p : Pending) (lines : List LineFields) → All Mentioned lines → All Named (events_from p lines)
+  all_named p [] m = All-nil Named
+  all_named p (l ∷ lines) m = All-append Named (events_of_line p l.act) (events_from (pending_after p l.act) lines)
+      (one p l.act (All-head Mentioned l lines m)) (all_named (pending_after p l.act) lines (All-tail Mentioned l lines m))
 
-pub before_named : (p : Parts) → AreListed (script_of_parts p) → All (IsNamed p.editors.items p.readers.items) (before_steps p)
-before_named p h =
-    tasks_named p.editors.items p.readers.items none_pending p.before.items (map (task_line During) p.during.items ++ (settle_lines p.settle ++ map finale_line p.finales.items)) h
+  -- who isn't among them has made no commit, and was asked for nothing
+  no_commits : (editor : ℕ) → HasNone editors editor → (es : List Step) → All Named es → commits_by editor es ≡ []
+  no_commits editor lacks [] m = refl
+  no_commits editor lacks (Commit e edits ∷ es) m = ap (λ (b : Bool). (if b then edits ∷ [] else []) ++ commits_by editor es)
+      (ne_eqb e editor (not_among editors editor e lacks (All-head Named (Commit e edits) es m))) ∙ no_commits editor lacks es (All-tail Named (Commit e edits) es m)
+  no_commits editor lacks (Draw asked fates ∷ es) m = no_commits editor lacks es (All-tail Named (Draw asked fates) es m)
+  no_commits editor lacks (Open reader path ∷ es) m = no_commits editor lacks es (All-tail Named (Open reader path) es m)
+
+  none_asked : (reader : ℕ) → HasNone readers reader → (before all above : ℕ) (es : List (Stage × Step)) → All Named (steps es) → asked_from reader before all above es ≡ []
+  none_asked reader lacks before all above [] m = refl
+  none_asked reader lacks before all above ((stage, Commit e edits) ∷ es) m = none_asked reader lacks before all above es (All-tail Named (Commit e edits) (steps es) m)
+  none_asked reader lacks before all above ((stage, Draw asked fates) ∷ es) m = none_asked reader lacks before all (suc above) es (All-tail Named (Draw asked fates) (steps es) m)
+  none_asked reader lacks before all above ((stage, Open r path) ∷ es) m =
+      ap (λ (b : Bool). (if b then record { path = path; least = least_for above before all stage } ∷ [] else []) ++ asked_from reader before all above es)
+      (ne_eqb r reader (not_among readers reader r lacks (All-head Named (Open r path) (steps es) m)))
+      ∙ none_asked reader lacks before all above es (All-tail Named (Open r path) (steps es) m)
+
+pub none_of_editor : (script : Fields) → AreListed script → (editor : ℕ) → HasNone script.editors editor → commits_by editor (events_of script) ≡ []
+none_of_editor script listed editor lacks = no_commits script.editors script.readers editor lacks (events_of script) (all_named script.editors script.readers none_pending script.lines listed)
+
+pub none_of_reader : (script : Fields) → AreListed script → (reader : ℕ) → HasNone script.readers reader → asked_of reader script ≡ []
+none_of_reader script listed reader lacks = none_asked script.editors script.readers reader lacks (draws_before_start script) (all_draws script) 0 (staged_events script)
+    (subst (All (IsNamed script.editors script.readers)) (sym (steps_from none_pending script.lines)) (all_named script.editors script.readers none_pending script.lines listed))

@@ -1,17 +1,16 @@
 -- What the readers opened, by the drawings that their shots had heard; and that what was played is a session.
-use Rattle.session.proofs.Words.{◌≡◌, ℕ, suc, ◌≤◌, true, List, [], ◌∷◌, ◌++◌, length, filter, drop, get_or, count_by, ◌⊎◌, inl, inr, sym, ap, ◌∙◌, refl, subst, arith, ◌≢◌, zero, ◌+◌, ◌<◌, ◌==◌, Bool, false, cond, map, Some, slice_get, nat_eq, ne_eqb, length-map, Edit, Fate, Shot, ReaderView, AllAnswered, Answered, ArePublishable, HistoriesGrow, CatalogueState, is_draw, trees_of, Entry, Commit, Draw, Open, Step, Drawing, MeetsHeadline, world_after, EverySettledRunIsWhole, EverySettledRunOpens, OpenEntry, Each, merge_of, drawn_with, opened_of, drawings_after, AreAnswered, IsRunOfWorld, candidates_after, IsAnswered, is_draw_step, is_open_by, IsPlaced, IsInOrder, AreParts, IsReady, IsMerged, EveryMergeIsMerged, AreNumbers, merged_is_published, count_more, count_same, Fields, events_of, DrawFields, AreShots, AreOpened, Asked, Rises, HasOpened, script_of_parts, AreListed, IsInRanges, IsActor, AreActors, commits_by, draws_in, asked_of, settles, asked_in, AreCommitted, AreKnown, AreOnShots, IsShown, EndsSettled, IsSession, IsPlayed, fates_of, PlayedIsASession, AllRead, eqb-false, AllByRecursion, IsDistinct, All-get_or, view, Snapshot, snapshot_after, answer_after, Reply}
+use Rattle.session.proofs.Words.{◌≡◌, ℕ, suc, ◌≤◌, true, List, [], ◌∷◌, ◌++◌, length, filter, drop, get_or, count_by, ◌⊎◌, inl, inr, sym, ap, ◌∙◌, refl, subst, arith, ◌≢◌, zero, ◌+◌, ◌<◌, ◌==◌, Bool, false, cond, map, Some, slice_get, nat_eq, ne_eqb, length-map, Edit, Fate, Shot, ReaderView, AllAnswered, Answered, ArePublishable, HistoriesGrow, CatalogueState, is_draw, trees_of, Entry, Commit, Draw, Open, Step, Drawing, MeetsHeadline, world_after, EverySettledRunIsWhole, EverySettledRunOpens, OpenEntry, Each, merge_of, drawn_with, opened_of, drawings_after, AreAnswered, IsRunOfWorld, candidates_after, IsAnswered, is_draw_step, is_open_by, IsPlaced, IsInOrder, AreParts, IsReady, IsMerged, EveryMergeIsMerged, AreNumbers, merged_is_published, count_more, count_same, Fields, events_of, DrawFields, AreShots, AreOpened, Asked, Rises, script_of_parts, AreListed, IsInRanges, IsActor, AreActors, commits_by, draws_in, asked_of, settles, asked_in, AreCommitted, AreKnown, AreOnShots, IsShown, EndsSettled, IsSession, IsPlayed, fates_of, PlayedIsASession, HasRead, whose, eqb-false, AllByRecursion, IsDistinct, All-get_or, view, Snapshot, snapshot_after, answer_after, Reply}
 use Rattle.generation_catalogue.specs.declared.entry.Entry.TheVariants as entries
-use Rattle.history_merge.specs.Laws.{with_draws_before, NeverFall}
+use Rattle.history_merge.specs.Merged.{with_draws_before, NeverFall, AreApart}
 use Rattle.history_merge.specs.Merging.{opens_by}
-use Rattle.history_merge.specs.Merged.{AreApart}
 use Rattle.session.proofs.Feeding.{fates_in, asked_by}
 use Rattle.session.proofs.Telling.{Told, Tells, merge_tells, none_of_other}
 use Rattle.session.proofs.Committed.{committed, HasPlace, HasNone, find_place, place_mapped}
-use Rattle.session.proofs.Parted.{settles_last}
-use Rattle.session.proofs.Scripted.{none_of_editor, none_of_reader, EndsDrawn}
+use Rattle.session.proofs.Parted.{EndsDrawn, none_of_editor, none_of_reader, settles_last}
 use Rattle.session.proofs.InPlace.{opens_in_place}
-use Rattle.session.proofs.Settled.{steps, ends_settled, ends_whole, ends_answered}
-use Rattle.std.proofs.lemmas.Map.Keys.{IsDistinct-head, IsDistinct-tail}
+use Rattle.session.proofs.Settled.{steps, draws_filtered, ends_settled, ends_whole, ends_answered}
+use Rattle.std.proofs.lemmas.Bool.{cases_order}
+use Rattle.std.proofs.lemmas.Map.Keys.{IsDistinct-head, IsDistinct-tail, apart_from_distinct}
 use Rattle.path_resolver.specs.Resolving.{answer_of}
 use Rattle.carousel_world.specs.Receptions.{label_after}
 
@@ -19,29 +18,25 @@ use Rattle.carousel_world.specs.Receptions.{label_after}
 
 pub record IsHeard (drawings : List Drawing) (e : OpenEntry) : Type 0 where
   pub draws : e.draws ≡ e.shot
-  pub label : e.label ≡ label_after (candidates_after drawings e.shot)
-  pub answer : e.answer ≡ answer_after (candidates_after drawings e.shot) e.path
+  pub answered : IsAnswered drawings e
 
 heard_on : (drawings : List Drawing) (shots : List Shot) (e : OpenEntry) → AreShots drawings shots → Answered shots e → IsHeard drawings e
-heard_on drawings shots e are h = let same : view h.0 ≡ snapshot_after e.shot e.shot (candidates_after drawings e.shot) = are.each e.shot h.0 h.1 in record {
-  draws = h.3 ∙ ap (λ (s : Snapshot). s.draws) same;
-  label = h.4 ∙ ap (λ (s : Snapshot). s.held.label) same;
-  answer = h.5 ∙ ap (λ (s : Snapshot). answer_of s.held e.path) same;
-}
+heard_on drawings shots e are h = let same : view h.0 ≡ snapshot_after e.shot e.shot (candidates_after drawings e.shot) = are.each e.shot h.0 h.1 in
+    let draws : e.draws ≡ e.shot = h.3 ∙ ap (λ (s : Snapshot). s.draws) same in record {
+      draws = draws;
+      answered = (
+        subst (λ (k : ℕ). e.label ≡ label_after (candidates_after drawings k)) (sym draws) (h.4 ∙ ap (λ (s : Snapshot). s.held.label) same),
+        subst (λ (k : ℕ). e.answer ≡ answer_after (candidates_after drawings k) e.path) (sym draws) (h.5 ∙ ap (λ (s : Snapshot). answer_of s.held e.path) same),
+      );
+    }
 
 all_heard : (drawings : List Drawing) (shots : List Shot) → AreShots drawings shots → (es : List OpenEntry) → AllAnswered shots es → Each (IsHeard drawings) es
 all_heard drawings shots are [] h = tt
 all_heard drawings shots are (e ∷ es) h = (heard_on drawings shots e are h.0, all_heard drawings shots are es h.1)
 
-answered : (drawings : List Drawing) (e : OpenEntry) → IsHeard drawings e → IsAnswered drawings e
-answered drawings e h = (
-  h.label ∙ ap (λ (k : ℕ). label_after (candidates_after drawings k)) (sym h.draws),
-  h.answer ∙ ap (λ (k : ℕ). answer_after (candidates_after drawings k) e.path) (sym h.draws),
-)
-
 all_answered : (drawings : List Drawing) (es : List OpenEntry) → Each (IsHeard drawings) es → Each (IsAnswered drawings) es
 all_answered drawings [] h = tt
-all_answered drawings (e ∷ es) h = (answered drawings e h.0, all_answered drawings es h.1)
+all_answered drawings (e ∷ es) h = ((h.0).answered, all_answered drawings es h.1)
 
 -- ---- counts of draws never fall
 
@@ -62,30 +57,20 @@ abbrev pub told_by : ℕ → List OpenEntry → List (ℕ × (Step × Reply))
 told_by reader es = map (λ (o : OpenEntry). (o.draws, opened_of reader o)) es
 
 module _ (script : Fields) (drawings : List Drawing) (shots : List Shot) (are : AreShots drawings shots) where
-  heard_by : (v : ReaderView) → v.known ≡ shots → AllAnswered v.known v.opens → Each (IsHeard drawings) v.opens
-  heard_by v known h = all_heard drawings shots are v.opens (subst (λ (l : List Shot). AllAnswered l v.opens) known h)
-
-  in_order_one : (v : ReaderView) (asked : List Asked) → IsActor v.reader → HasOpened asked v → v.known ≡ shots → AllAnswered v.known v.opens → IsInOrder (length drawings) v
-  in_order_one v asked actor opened known h = let count : length v.known ≡ length drawings + 1 = ap length known ∙ are.count in record {
+  in_order_one : (v : ReaderView) → IsActor v.reader → HasRead script shots v → IsInOrder (length drawings) v
+  in_order_one v actor h = let count : length v.known ≡ length drawings + 1 = ap length h.known ∙ are.count in record {
     some = actor.at_least;
     most = actor.at_most;
-    rising = never drawings 0 0 (length drawings) v.opens (λ n k. omega arith) (heard_by v known h) (subst (λ (n : ℕ). Rises 0 v.opens n) count opened.rises);
+    rising = never drawings 0 0 (length drawings) v.opens (λ n k. omega arith) (all_heard drawings shots are v.opens h.answered) (subst (λ (n : ℕ). Rises 0 v.opens n) count (h.opened).rises);
   }
 
-  pub in_order : (rs : List ℕ) (vs : List ReaderView) → AllRead script shots rs vs → ((p : ℕ) → p < length rs → IsActor (get_or rs p 0)) → Each (IsInOrder (length drawings)) vs
-  in_order [] [] h actor = tt
-  in_order [] (v ∷ vs) h actor = absurd h
-  in_order (r ∷ rs) [] h actor = absurd h
-  in_order (r ∷ rs) (v ∷ vs) h actor = (
-    in_order_one v (asked_of r script) (subst IsActor (sym h.0) (actor 0 (omega arith))) h.1 h.2 h.3,
-    in_order rs vs h.4 (λ p less. actor (suc p) (omega (arith, less))),
-  )
+  pub in_order : (vs : List ReaderView) → Each (HasRead script shots) vs → ((p : ℕ) → p < length (whose vs) → IsActor (get_or (whose vs) p 0)) → Each (IsInOrder (length drawings)) vs
+  in_order [] h actor = tt
+  in_order (v ∷ vs) h actor = (in_order_one v (actor 0 (omega arith)) h.0, in_order vs h.1 (λ p less. actor (suc p) (omega (arith, less))))
 
-  pub are_answered : (rs : List ℕ) (vs : List ReaderView) → AllRead script shots rs vs → AreAnswered drawings vs
-  are_answered [] [] h = tt
-  are_answered [] (v ∷ vs) h = absurd h
-  are_answered (r ∷ rs) [] h = absurd h
-  are_answered (r ∷ rs) (v ∷ vs) h = (all_answered drawings v.opens (heard_by v h.2 h.3), are_answered rs vs h.4)
+  pub are_answered : (vs : List ReaderView) → Each (HasRead script shots) vs → AreAnswered drawings vs
+  are_answered [] h = tt
+  are_answered (v ∷ vs) h = (all_answered drawings v.opens (all_heard drawings shots are v.opens (h.0).answered), are_answered vs h.1)
 
   -- what a reader was asked for is told, in order
   pub told_opens : (reader : ℕ) (asked : List Asked) (es : List OpenEntry) → AreOpened asked es → AllAnswered shots es → AreKnown reader asked (told_by reader es)
@@ -102,20 +87,13 @@ module _ (script : Fields) (drawings : List Drawing) (shots : List Shot) (are : 
 
 -- ---- numbers
 
-each_apart : (r : ℕ) (rs : List ℕ) → AllByRecursion (λ y. nat_eq r y ≡ false) rs → (p : ℕ) → p < length rs → get_or rs p 0 ≢ r
-each_apart r [] h p less e = omega (arith, less)
-each_apart r (x ∷ rs) h zero less e = eqb-false r x h.0 (sym e)
-each_apart r (x ∷ rs) h (suc p) less e = each_apart r rs h.1 p (omega (arith, less)) e
-
-not_first : (x : ℕ) (xs : List ℕ) → AllByRecursion (λ y. nat_eq x y ≡ false) xs → (j : ℕ) → j < length xs → x ≡ get_or xs j 0 → ⊥
-not_first x xs h j less e = each_apart x xs h j less (sym e)
-
 pub apart_numbers : (xs : List ℕ) → IsDistinct nat_eq xs → (i j : ℕ) → i < length xs → j < length xs → get_or xs i 0 ≡ get_or xs j 0 → i ≡ j
-apart_numbers [] d i j h k e = absurd (omega (arith, h))
-apart_numbers (x ∷ xs) d zero zero h k e = refl
-apart_numbers (x ∷ xs) d zero (suc j) h k e = absurd (not_first x xs (IsDistinct-head nat_eq x xs d) j (omega (arith, k)) e)
-apart_numbers (x ∷ xs) d (suc i) zero h k e = absurd (not_first x xs (IsDistinct-head nat_eq x xs d) i (omega (arith, h)) (sym e))
-apart_numbers (x ∷ xs) d (suc i) (suc j) h k e = ap suc (apart_numbers xs (IsDistinct-tail nat_eq x xs d) i j (omega (arith, h)) (omega (arith, k)) e)
+apart_numbers xs d i j h k e = by (cases_order i j)
+  where
+    by : (i ≡ j) ⊎ ((i < j) ⊎ (j < i)) → i ≡ j
+    by (inl same) = same
+    by (inr (inl less)) = absurd (eqb-false (get_or xs i 0) (get_or xs j 0) (apart_from_distinct nat_eq xs i j 0 d less k) e)
+    by (inr (inr more)) = absurd (eqb-false (get_or xs j 0) (get_or xs i 0) (apart_from_distinct nat_eq xs j i 0 d more h) (sym e))
 
 pub actor_at : (xs : List ℕ) → AreActors xs → (p : ℕ) → p < length xs → IsActor (get_or xs p 0)
 actor_at xs a p less = All-get_or IsActor xs p 0 less a.each
@@ -123,47 +101,29 @@ actor_at xs a p less = All-get_or IsActor xs p 0 less a.each
 pub are_numbers : (xs : List ℕ) → AreActors xs → AreNumbers xs
 are_numbers xs a = record { some = λ i less. (actor_at xs a i less).at_least; most = λ i less. (actor_at xs a i less).at_most; apart = apart_numbers xs a.once }
 
-module _ (script : Fields) (shots : List Shot) where
-  -- the reader of the number at a place
-  pub reader_at : (rs : List ℕ) (vs : List ReaderView) → AllRead script shots rs vs → (p : ℕ) → p < length rs
-      → (v : ReaderView) × (slice_get vs p ≡ Some v) × (v.reader ≡ get_or rs p 0) × AreOpened (asked_of (get_or rs p 0) script) v.opens × AllAnswered shots v.opens
-  reader_at [] [] h p less = absurd (omega (arith, less))
-  reader_at [] (v ∷ vs) h p less = absurd h
-  reader_at (r ∷ rs) [] h p less = absurd h
-  reader_at (r ∷ rs) (v ∷ vs) h zero less = (v, refl, h.0, (h.1).opened, subst (λ (l : List Shot). AllAnswered l v.opens) h.2 h.3)
-  reader_at (r ∷ rs) (v ∷ vs) h (suc p) less = reader_at rs vs h.4 p (omega (arith, less))
+-- the reader of the number at a place
+pub reader_at : (P : ReaderView → Type 0) (vs : List ReaderView) → Each P vs → (p : ℕ) → p < length (whose vs) → (v : ReaderView) × (slice_get vs p ≡ Some v) × (v.reader ≡ get_or (whose vs) p 0) × P v
+reader_at P [] h p less = absurd (omega (arith, less))
+reader_at P (v ∷ vs) h zero less = (v, refl, refl, h.0)
+reader_at P (v ∷ vs) h (suc p) less = reader_at P vs h.1 p (omega (arith, less))
 
-  others : (r : ℕ) (rs : List ℕ) (vs : List ReaderView) → AllRead script shots rs vs → AllByRecursion (λ y. nat_eq r y ≡ false) rs → (s : ℕ) → s ≡ r
-      → Each (λ (q : ReaderView). q.reader ≢ s) vs
-  others r [] [] h d s is = tt
-  others r [] (v ∷ vs) h d s is = absurd h
-  others r (x ∷ rs) [] h d s is = absurd h
-  others r (x ∷ rs) (v ∷ vs) h d s is = (λ e. eqb-false r x d.0 (sym is ∙ sym e ∙ h.0), others r rs vs h.4 d.1 s is)
+others : (r : ℕ) (vs : List ReaderView) → AllByRecursion (λ y. nat_eq r y ≡ false) (whose vs) → Each (λ (q : ReaderView). q.reader ≢ r) vs
+others r [] d = tt
+others r (v ∷ vs) d = (λ e. eqb-false r v.reader d.0 (sym e), others r vs d.1)
 
-  pub are_apart : (rs : List ℕ) (vs : List ReaderView) → AllRead script shots rs vs → IsDistinct nat_eq rs → AreApart vs
-  are_apart [] [] h d = tt
-  are_apart [] (v ∷ vs) h d = absurd h
-  are_apart (r ∷ rs) [] h d = absurd h
-  are_apart (r ∷ rs) (v ∷ vs) h d = (others r rs vs h.4 (IsDistinct-head nat_eq r rs d) v.reader h.0, are_apart rs vs h.4 (IsDistinct-tail nat_eq r rs d))
+pub are_apart : (vs : List ReaderView) → IsDistinct nat_eq (whose vs) → AreApart vs
+are_apart [] d = tt
+are_apart (v ∷ vs) d = (others v.reader vs (IsDistinct-head nat_eq v.reader (whose vs) d), are_apart vs (IsDistinct-tail nat_eq v.reader (whose vs) d))
 
-  -- a number that is no reader's has no opens
-  pub none_opened : (rs : List ℕ) (vs : List ReaderView) (reader : ℕ) → AllRead script shots rs vs → HasNone rs reader → opens_by reader vs ≡ []
-  none_opened [] [] reader h lacks = refl
-  none_opened [] (v ∷ vs) reader h lacks = absurd h
-  none_opened (r ∷ rs) [] reader h lacks = absurd h
-  none_opened (r ∷ rs) (v ∷ vs) reader h lacks = let other : (v.reader == reader) ≡ false = ne_eqb v.reader reader (λ e. lacks 0 (omega arith) (sym h.0 ∙ e)) in
-      ap (λ (b : Bool). cond b v.opens [] ++ opens_by reader vs) other
-      ∙ none_opened rs vs reader h.4 (λ p less. lacks (suc p) (omega (arith, less)))
+-- a number that is no reader's has no opens
+pub none_opened : (vs : List ReaderView) (reader : ℕ) → HasNone (whose vs) reader → opens_by reader vs ≡ []
+none_opened [] reader lacks = refl
+none_opened (v ∷ vs) reader lacks = let other : (v.reader == reader) ≡ false = ne_eqb v.reader reader (lacks 0 (omega arith)) in
+    ap (λ (b : Bool). cond b v.opens [] ++ opens_by reader vs) other ∙ none_opened vs reader (λ p less. lacks (suc p) (omega (arith, less)))
 
 -- ---- what was played is a session
 
 -- ---- draws
-
-draws_filtered : (told : List Told) → draws_in (steps told) ≡ draws_in (steps (filter (λ x. is_draw_step x.0) told))
-draws_filtered [] = refl
-draws_filtered ((Commit editor edits, reply) ∷ told) = draws_filtered told
-draws_filtered ((Draw asked fates, reply) ∷ told) = ap (λ l. record { asked = asked; fates = fates } ∷ l) (draws_filtered told)
-draws_filtered ((Open reader path, reply) ∷ told) = draws_filtered told
 
 draws_with : (editors : List ℕ) (lines : List DrawFields) (es : List Entry) → asked_in es ≡ asked_by lines → draws_in (steps (drawn_with editors (fates_in lines) (filter is_draw es))) ≡ lines
 draws_with editors [] [] h = refl
@@ -204,12 +164,15 @@ module _ (script : Fields) (c : CatalogueState) (drawings : List Drawing) (shots
   are_placed : Each (IsPlaced (length script.editors)) c.entries
   are_placed = subst (λ (n : ℕ). Each (IsPlaced n) c.entries) (length-map script.editors (λ (editor : ℕ). commits_by editor (events_of script))) (p.gathered).placed
 
+  actors : AreActors (whose readers)
+  actors = subst AreActors (sym p.readers_are) ranges.readers
+
   pub parts : AreParts c.entries (fates_of script) script.editors readers
   parts = record {
     drawn = length-map lines (λ (d : DrawFields). d.fates) ∙ line_count;
     placed = are_placed;
-    in_order = subst (λ (n : ℕ). Each (IsInOrder n) readers) drawn_count (in_order script drawings shots p.shown script.readers readers p.read (actor_at script.readers ranges.readers));
-    apart = are_apart script shots script.readers readers p.read (ranges.readers).once;
+    in_order = subst (λ (n : ℕ). Each (IsInOrder n) readers) drawn_count (in_order script drawings shots p.shown readers p.read (actor_at (whose readers) actors));
+    apart = are_apart readers actors.once;
   }
 
   ready : IsReady c script.editors (fates_of script) readers
@@ -217,7 +180,7 @@ module _ (script : Fields) (c : CatalogueState) (drawings : List Drawing) (shots
     history = (p.gathered).history;
     parts = parts;
     numbers = are_numbers script.editors ranges.editors;
-    answered = subst (λ (ds : List Drawing). AreAnswered ds readers) (sym (p.gathered).drawn) (are_answered script drawings shots p.shown script.readers readers p.read);
+    answered = subst (λ (ds : List Drawing). AreAnswered ds readers) (sym (p.gathered).drawn) (are_answered script drawings shots p.shown readers p.read);
   }
 
   tells : Tells script.editors c.entries merge
@@ -241,13 +204,13 @@ module _ (script : Fields) (c : CatalogueState) (drawings : List Drawing) (shots
     of_reader : (P : List (ℕ × Told) → Type 0) (reader : ℕ) → 1 ≤ reader → reader ≤ 64
         → ((os : List OpenEntry) → AreOpened (asked_of reader script) os → AllAnswered shots os → P (told_by reader os)) → (HasNone script.readers reader → P [])
         → P (with_draws_before (λ (x : Told). is_open_by reader x.0) (λ (x : Told). is_draw_step x.0) 0 merge)
-    of_reader P reader some most made none = subst P (sym (m.opens reader some most)) (by (find_place script.readers reader))
+    of_reader P reader some most made none = subst P (sym (m.opens reader some most)) (by (find_place (whose readers) reader))
       where
-        by : HasPlace script.readers reader ⊎ HasNone script.readers reader → P (told_by reader (opens_by reader readers))
-        by (inl h) = let r = reader_at script shots script.readers readers p.read h.0 h.1 in let v : ReaderView = r.0 in
+        by : HasPlace (whose readers) reader ⊎ HasNone (whose readers) reader → P (told_by reader (opens_by reader readers))
+        by (inl h) = let r = reader_at (HasRead script shots) readers p.read h.0 h.1 in let v : ReaderView = r.0 in
             let its : opens_by reader readers ≡ v.opens = ap (λ (n : ℕ). opens_by n readers) (sym (r.2 ∙ h.2)) ∙ m.own h.0 v r.1 in
-            subst (λ (os : List OpenEntry). P (told_by reader os)) (sym its) (made v.opens (subst (λ (n : ℕ). AreOpened (asked_of n script) v.opens) h.2 r.3) r.4)
-        by (inr lacks) = subst (λ (os : List OpenEntry). P (told_by reader os)) (sym (none_opened script shots script.readers readers reader p.read lacks)) (none lacks)
+            subst (λ (os : List OpenEntry). P (told_by reader os)) (sym its) (made v.opens (subst (λ (n : ℕ). AreOpened (asked_of n script) v.opens) (r.2 ∙ h.2) ((r.3).opened).opened) (r.3).answered)
+        by (inr lacks) = subst (λ (os : List OpenEntry). P (told_by reader os)) (sym (none_opened readers reader lacks)) (none (subst (λ (ns : List ℕ). HasNone ns reader) p.readers_are lacks))
 
     opens : (reader : ℕ) → 1 ≤ reader → reader ≤ 64
         → AreKnown reader (asked_of reader script) (with_draws_before (λ (x : Told). is_open_by reader x.0) (λ (x : Told). is_draw_step x.0) 0 merge)

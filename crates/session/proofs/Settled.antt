@@ -1,13 +1,14 @@
 -- The end of a history that settles.
-use Rattle.session.proofs.Words.{◌≡◌, ℕ, ◌+◌, ◌≤◌, nat_le, List, [], ◌∷◌, ◌++◌, length, map, filter, All, sym, ap, ◌∙◌, refl, subst, arith, append_assoc, length-append, map-append, same_from_push, All-head, All-tail, All-nil, All-cons, cond_both, Fate, Edit, PathNames, node_at, ArePublishable, tree_at, HistoriesGrow, CatalogueState, with_commit, with_draw, trees_of, current_of, cursor_of, count_drawn, outcome_of, is_entered, with_entry, is_draw, Entry, Step, Commit, Draw, Open, WorldState, initial_world, happens, after_all, drawing_of, candidates_in, reply_to, replies_to, IsUndamaged, world_after, broadcast_of, IsOpening, with_settling, Answers, EverySettledRunIsWhole, EverySettledRunOpens, Reply, opens_leave, after_all-append, settled_among_opens, settling_step, Each, is_draw_step, IsRunOfWorld, DrawFields, draws_in, IsSettled, EndsSettled, EndsWhole, EndsAnswered}
+use Rattle.session.proofs.Words.{◌≡◌, ℕ, ◌+◌, ◌≤◌, nat_le, List, [], ◌∷◌, ◌++◌, length, map, filter, All, sym, ap, ◌∙◌, refl, subst, arith, append_assoc, length-append, map-append, same_from_push, All-head, All-tail, All-nil, All-cons, cond_both, Fate, Edit, PathNames, node_at, ArePublishable, tree_at, HistoriesGrow, CatalogueState, with_commit, with_draw, trees_of, current_of, cursor_of, count_drawn, outcome_of, is_entered, with_entry, is_draw, Entry, Step, Commit, Draw, Open, WorldState, initial_world, happens, after_all, drawing_of, candidates_in, reply_to, replies_to, IsUndamaged, world_after, broadcast_of, IsOpening, with_settling, Answers, EverySettledRunIsWhole, EverySettledRunOpens, Reply, opens_leave, after_all-append, settled_among_opens, settling_step, Each, is_draw_step, IsRunOfWorld, DrawFields, draws_in, settling_line, IsSettled, EndsSettled, EndsWhole, EndsAnswered}
 use Rattle.cycle_planner.specs.Weights.{AreWeights}
 use Rattle.generation_catalogue.specs.History.{draws_of}
 use Rattle.generation_catalogue.specs.declared.entry.Entry.TheVariants as entries
 use Rattle.carousel_world.specs.Premises.{IsWhole}
 use Rattle.session.proofs.Lists.{count_append}
 use Rattle.session.proofs.Telling.{Told, IsOpenTold, Tells, tells_cut, only_opens}
-use Rattle.session.proofs.Scripted.{settling_draw, EndsDrawn}
+use Rattle.session.proofs.Parted.{EndsDrawn}
 use Rattle.session.proofs.Staged.{draws_more}
+pub use Rattle.session.specs.Sessions.{steps_told as steps}
 
 -- ---- a draw adds no tree, and one to the draws
 
@@ -67,10 +68,10 @@ settles_so grow ws events ends published few = let before : List Step = ends.0 i
     let same : world_after 1 ws events ≡ w = ap (world_after 1 ws) ends.3 ∙ settled_among_opens 1 ws before ends.1 ends.2 ends.4 ends.5 in
     let twice : w ≡ happens (happens (world_after 1 ws before) settling_step) settling_step = after_all-append (initial_world 1 ws) before (settling_step ∷ settling_step ∷ []) in
     let IsGood : WorldState → Type 0 = λ v. ArePublishable v.catalogue.carousel (trees_of v.catalogue) in
-    let parts : draws_in events ≡ draws_in before ++ settling_draw ∷ (draws_in ends.1 ++ settling_draw ∷ draws_in ends.2) =
-    ap draws_in ends.3 ∙ draws_more before (settling_step ∷ (ends.1 ++ settling_step ∷ ends.2)) ∙ ap (λ l. draws_in before ++ settling_draw ∷ l) (draws_more ends.1 (settling_step ∷ ends.2)) in
-    let counted = ap length parts in let outer = length-append (draws_in before) (settling_draw ∷ (draws_in ends.1 ++ settling_draw ∷ draws_in ends.2)) in
-    let inner = length-append (draws_in ends.1) (settling_draw ∷ draws_in ends.2) in let bound = draws_few (initial_world 1 ws) before in record {
+    let parts : draws_in events ≡ draws_in before ++ settling_line ∷ (draws_in ends.1 ++ settling_line ∷ draws_in ends.2) =
+    ap draws_in ends.3 ∙ draws_more before (settling_step ∷ (ends.1 ++ settling_step ∷ ends.2)) ∙ ap (λ l. draws_in before ++ settling_line ∷ l) (draws_more ends.1 (settling_step ∷ ends.2)) in
+    let counted = ap length parts in let outer = length-append (draws_in before) (settling_line ∷ (draws_in ends.1 ++ settling_line ∷ draws_in ends.2)) in
+    let inner = length-append (draws_in ends.1) (settling_line ∷ draws_in ends.2) in let bound = draws_few (initial_world 1 ws) before in record {
       before = before;
       same = same;
       published = published_before grow (world_after 1 ws before) (subst IsGood (same ∙ twice) published);
@@ -83,20 +84,17 @@ pub ends_whole : HistoriesGrow → EverySettledRunIsWhole → (ws : List ℕ) (e
 ends_whole grow law ws events weigh ends published few = let s = settles_so grow ws events ends published few in
     subst (λ (v : WorldState). IsWhole 1 (broadcast_of v).layouts (length (trees_of v.catalogue)) (candidates_in v)) (sym s.same) (law 1 ws s.before weigh s.published s.room)
 
-abbrev pub steps : List Told → List Step
-steps told = map (λ (x : Told). x.0) told
-
 -- the reply at a place of a run
 reply_at : (w : WorldState) (before after : List Told) (e : Step) (reply : Reply) → map (λ (x : Told). x.1) (before ++ (e, reply) ∷ after) ≡ replies_to w (steps (before ++ (e, reply) ∷ after))
     → reply ≡ reply_to (after_all w (steps before)) e
 reply_at w [] after e reply h = cc
 reply_at w (x ∷ before) after e reply h = reply_at (happens w x.0) before after e reply (cc)
 
-no_draws : (told : List Told) → filter (λ (x : Told). is_draw_step x.0) told ≡ [] → draws_in (steps told) ≡ []
-no_draws [] h = refl
-no_draws ((Commit editor edits, reply) ∷ told) h = no_draws told h
-no_draws ((Draw asked fates, reply) ∷ told) h = absurd (cc)
-no_draws ((Open reader path, reply) ∷ told) h = no_draws told h
+pub draws_filtered : (told : List Told) → draws_in (steps told) ≡ draws_in (steps (filter (λ (x : Told). is_draw_step x.0) told))
+draws_filtered [] = refl
+draws_filtered ((Commit editor edits, reply) ∷ told) = draws_filtered told
+draws_filtered ((Draw asked fates, reply) ∷ told) = ap (λ l. record { asked = asked; fates = fates } ∷ l) (draws_filtered told)
+draws_filtered ((Open reader path, reply) ∷ told) = draws_filtered told
 
 all_behind : (b a : List Step) (e : Step) → All IsOpening (b ++ e ∷ a) → All IsOpening a
 all_behind [] a e h = All-tail IsOpening e a h
@@ -108,7 +106,7 @@ opens_last [] z [] a reader path h opens none = absurd (cc)
 opens_last [] z (y ∷ b) a reader path h opens none = let e : z ≡ b ++ Open reader path ∷ a = cc in all_behind b a (Open reader path) (subst (All IsOpening) e opens)
 opens_last (x ∷ xs) z [] a reader path h opens none = let e : xs ++ settling_step ∷ z ≡ a = cc in
     let some = ap length (sym (draws_more xs (settling_step ∷ z)) ∙ ap draws_in e ∙ none) in
-    let size = length-append (draws_in xs) (settling_draw ∷ draws_in z) in absurd (omega (arith, some, size))
+    let size = length-append (draws_in xs) (settling_line ∷ draws_in z) in absurd (omega (arith, some, size))
 opens_last (x ∷ xs) z (y ∷ b) a reader path h opens none = opens_last xs z b a reader path (cc) opens none
 
 pub ends_answered : HistoriesGrow → EverySettledRunOpens → (ws : List ℕ) (told : List Told) → AreWeights ws → IsRunOfWorld 1 ws told → EndsSettled (steps told)
@@ -122,7 +120,7 @@ ends_answered grow law ws told weigh run ends published few undamaged before aft
     let parts : steps told ≡ steps before ++ Open reader path ∷ steps after = ap steps cut ∙ map-append (λ (x : Told). x.0) before ((Open reader path, reply) ∷ after) in
     let opens : All IsOpening (steps after) =
     opens_last (ends.0 ++ settling_step ∷ ends.1) ends.2 (steps before) (steps after) reader path
-    (append_assoc ends.0 (settling_step ∷ ends.1) (settling_step ∷ ends.2) ∙ sym ends.3 ∙ parts) ends.5 (no_draws after none) in
+    (append_assoc ends.0 (settling_step ∷ ends.1) (settling_step ∷ ends.2) ∙ sym ends.3 ∙ parts) ends.5 (draws_filtered after ∙ ap (λ (l : List Told). draws_in (steps l)) none) in
     let same : all ≡ here = ap (world_after 1 ws) parts ∙ after_all-append (initial_world 1 ws) (steps before) (Open reader path ∷ steps after) ∙ opens_leave here (steps after) opens in
     let is : reply ≡ reply_to here (Open reader path) =
     reply_at (initial_world 1 ws) before after (Open reader path) reply (subst (λ l. map (λ (x : Told). x.1) l ≡ replies_to (initial_world 1 ws) (steps l)) cut run) in
@@ -146,10 +144,10 @@ drawn_at_end a b z f g opens later = draws_more (a ++ Draw 1048576 f ∷ b) (Dra
 ends_by : (a b z events : List Step) (f g : List Fate) → events ≡ a ++ Draw 1048576 f ∷ b ++ Draw 1048576 g ∷ z → All IsOpening b → All IsOpening z
     → EndsDrawn (draws_in events) → EndsSettled events
 ends_by a b z events f g cut opens later drew =
-    let both : (draws_in a ++ draw_of f ∷ []) ++ draw_of g ∷ [] ≡ (drew.0 ++ settling_draw ∷ []) ++ settling_draw ∷ [] =
-    sym (drawn_at_end a b z f g opens later) ∙ ap draws_in (sym cut) ∙ drew.1 ∙ sym (append_assoc drew.0 (settling_draw ∷ []) (settling_draw ∷ [])) in
-    let outer = same_from_push (draws_in a ++ draw_of f ∷ []) (drew.0 ++ settling_draw ∷ []) (draw_of g) settling_draw both in
-    let inner = same_from_push (draws_in a) drew.0 (draw_of f) settling_draw outer.0 in let first : f ≡ [] = ap (λ (d : DrawFields). d.fates) inner.1 in
+    let both : (draws_in a ++ draw_of f ∷ []) ++ draw_of g ∷ [] ≡ (drew.0 ++ settling_line ∷ []) ++ settling_line ∷ [] =
+    sym (drawn_at_end a b z f g opens later) ∙ ap draws_in (sym cut) ∙ drew.1 ∙ sym (append_assoc drew.0 (settling_line ∷ []) (settling_line ∷ [])) in
+    let outer = same_from_push (draws_in a ++ draw_of f ∷ []) (drew.0 ++ settling_line ∷ []) (draw_of g) settling_line both in
+    let inner = same_from_push (draws_in a) drew.0 (draw_of f) settling_line outer.0 in let first : f ≡ [] = ap (λ (d : DrawFields). d.fates) inner.1 in
     let second : g ≡ [] = ap (λ (d : DrawFields). d.fates) outer.1 in
     (a, b, z, cut ∙ (λ i. a ++ Draw 1048576 (first i) ∷ b ++ Draw 1048576 (second i) ∷ z) ∙ append_assoc a (settling_step ∷ b) (settling_step ∷ z), opens, later)
 

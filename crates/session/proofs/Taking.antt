@@ -1,11 +1,5 @@
--- The lists of actors, one put in or taken out more.
-use Rattle.session.proofs.Words.{◌≡◌, ◌≢◌, ℕ, ◌+◌, ◌<◌, ◌≤◌, ◌==◌, List, [], ◌∷◌, ◌++◌, length, Some, sym, ap, ◌∙◌, arith, BTreeMap, eq-eqb, ne_eqb, Bool, slice_index_or, if◌then◌else◌, common_steps, nat_cmp, Vec, Global, dite, ℕ_discrete, items_in, AreApart}
-use Rattle.std.specs.BTreeMap.{get, Updates}
-
-pub pushed : {T : Type 0} (old : ℕ → List T) (actor : ℕ) (one : T) (mid new : BTreeMap ℕ (Vec T Global)) (took more : Vec T Global) → took.items ≡ old actor
-    → ((n : ℕ) → items_in (get nat_cmp mid n) ≡ (if n == actor then [] else old n)) → more.items ≡ took.items ++ one ∷ [] → Updates nat_cmp mid new actor (Some more)
-    → (n : ℕ) → items_in (get nat_cmp new n) ≡ (if n == actor then old n ++ one ∷ [] else old n)
-pushed old actor one mid new took more was held is updates n = let at = updates.0 n in let mine = held n in grind (arith, common_steps, at, mine, was, is)
+-- The lists of actors, one taken out more.
+use Rattle.session.proofs.Words.{◌≡◌, ◌≢◌, ℕ, ◌+◌, ◌<◌, ◌≤◌, ◌==◌, List, [], length, sym, ap, ◌∙◌, arith, eq-eqb, ne_eqb, Bool, slice_index_or, if◌then◌else◌, dite, ℕ_discrete, AreApart}
 
 pub either_side : (a b : ℕ) → (a == b) ≡ (b == a)
 either_side a b = dite (ℕ_discrete a b) (λ e. eq-eqb a b e ∙ sym (eq-eqb b a (sym e))) (λ ne. ne_eqb a b ne ∙ sym (ne_eqb b a (λ e. ne (sym e))))

@@ -1,10 +1,8 @@
 -- A history of events that tells entries, with opens between them.
-use Rattle.session.proofs.Words.{◌≡◌, ◌≢◌, ℕ, suc, ◌<◌, Bool, true, false, cond, List, [], ◌∷◌, ◌++◌, length, filter, drop, get_or, sum_by, ◌⊎◌, inl, inr, sym, ap, ◌∙◌, refl, subst, arith, ne_eqb, sum_by-cons, Fate, Entry, Step, Reply, ReaderView, OpenEntry, Each, event_of, opened_of, opens_at, merge_entries, merge_of, IsPlaced, AreNumbers, is_commit_at, is_commit_of, entries_to_next, up_to_next, filter_skips, each_opened, commit_told}
+use Rattle.session.proofs.Words.{◌≡◌, ◌≢◌, ℕ, suc, ◌<◌, Bool, true, false, cond, List, [], ◌∷◌, ◌++◌, length, filter, drop, get_or, sum_by, ◌⊎◌, inl, inr, sym, ap, ◌∙◌, refl, subst, arith, ne_eqb, sum_by-cons, Fate, Entry, ReaderView, OpenEntry, Each, event_of, opened_of, opens_at, merge_entries, merge_of, IsPlaced, AreNumbers, is_commit_at, is_commit_of, entries_to_next, up_to_next, filter_skips, each_opened, commit_told}
 use Rattle.generation_catalogue.specs.declared.entry.Entry.TheVariants as entries
 use Rattle.session.proofs.Lists.{first_fails}
-
-abbrev pub Told : Type 0
-Told = Step × Reply
+pub use Rattle.session.specs.Sessions.{Told}
 
 abbrev pub IsOpenTold : Told → Type 0
 IsOpenTold x = (reader : ℕ) × (o : OpenEntry) × (x ≡ opened_of reader o)

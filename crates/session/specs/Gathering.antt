@@ -9,8 +9,7 @@ use Rattle.generation_catalogue.specs.declared.entry.Entry.TheVariants as entrie
 use Rattle.generation_catalogue.specs.declared.entry.Refusal.{Refusal}
 use Rattle.carousel_world.specs.World.{Drawing, drawing_of}
 use Rattle.history_merge.specs.Merging.{Each}
-use Rattle.history_merge.specs.Merges.{drawings_of}
-use Rattle.history_merge.specs.Merged.{IsPlaced, is_commit_at}
+use Rattle.history_merge.specs.Merged.{drawings_of, IsPlaced, is_commit_at}
 use Rattle.session.specs.Chains.{Seen, nothing_seen, Commits, Draws, DrawFields}
 use Rattle.cycle_planner.specs.declared.TheConstants.{MOST_DRAWN}
 use Rattle.dsi_dii.specs.declared.TheConstants.{LAST_GENERATION}

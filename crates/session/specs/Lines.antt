@@ -14,12 +14,9 @@ use Rattle.session.specs.Opened.{Asked}
 -- ---- events
 
 -- the events of lines in written order, each with the stage of its line, where these edits are pending above them
-abbrev pub staged_of : Pending → Stage → Act → List (Stage × Step)
-staged_of p stage act = map (λ e. (stage, e)) (events_of_line p act)
-
 abbrev pub staged_from : Pending → List LineFields → List (Stage × Step)
 staged_from p [] = []
-staged_from p (l ∷ ls) = staged_of p l.stage l.act ++ staged_from (pending_after p l.act) ls
+staged_from p (l ∷ ls) = map (λ e. (l.stage, e)) (events_of_line p l.act) ++ staged_from (pending_after p l.act) ls
 
 abbrev pub staged_events : Fields → List (Stage × Step)
 staged_events script = staged_from none_pending script.lines
@@ -40,12 +37,8 @@ draws_in (Open reader path ∷ es) = draws_in es
 
 -- ---- what is asked of a reader
 
-abbrev pub is_before : Stage → Bool
-is_before Before = true
-is_before _ = false
-
 abbrev pub is_draw_before : Stage × Step → Bool
-is_draw_before (stage, Draw asked fates) = is_before stage
+is_draw_before (Before, Draw asked fates) = true
 is_draw_before _ = false
 
 -- How many draws an open has to have heard: before `start` those above it, after `start` those before `start`, and at the end all

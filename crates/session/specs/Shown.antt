@@ -5,7 +5,7 @@ use Rattle.path_resolver.specs.Shots.{view}
 use Rattle.tuner_core.specs.LookBack.{snapshot_after}
 use Rattle.carousel_world.specs.DownView.{DownlinkState, DownlinkStands}
 use Rattle.carousel_world.specs.World.{Drawing, groups_sent, arrivals}
-use Rattle.history_merge.specs.Merges.{candidates_after}
+use Rattle.history_merge.specs.Merged.{candidates_after}
 
 -- one shot before the first drawing and one after each; the shot of number k is what is held after the first k drawings
 pub record AreShots (drawings : List Drawing) (shots : List Shot) : Type 0 where

@@ -132,10 +132,7 @@ fn edit_all<R: Threads + Wait + Sync, G: Gate>(
     requires { All (IsEditorSeat station.now) editors.old }
     ensures { EachDid (DidEdit station.now) editors.old editors.new }
 {
-    let threads = editors.len();
-    if threads == 0 {
-        return;
-    }
+    let threads = editors.len().max(1);
     thread::for_each_mut(
         rt,
         editors,
@@ -152,10 +149,7 @@ fn read_all<R: Threads + Sync, G: Gate>(rt: &R, alloc: Global, gate: &G, readers
     requires { All IsReaderSeat readers.old }
     ensures { EachDid DidRead readers.old readers.new }
 {
-    let threads = readers.len();
-    if threads == 0 {
-        return;
-    }
+    let threads = readers.len().max(1);
     thread::for_each_mut(
         rt,
         readers,

@@ -1,16 +1,23 @@
-//! What an editor does.
-ghost use Rattle.std.specs.Prelude.{◌++◌, ◌∷◌, [], List, ℕ, OnOk, OnErr};
+//! The seats of the editors, and what an editor does.
+ghost use Rattle.std.specs.Prelude.{◌≡◌, ◌++◌, ◌∷◌, ◌≤◌, [], List, ℕ, map, length, OnOk, OnErr, IfOk};
 ghost use Rattle.path_tree.specs.declared.tree.Edit.{Edit as EditFields};
-ghost use Rattle.station.specs.Passes.{IsStationPass};
-ghost use Rattle.session.specs.Seats.{HasCommitted, DidEdit};
+ghost use Rattle.carousel_world.specs.Events.{Step, Commit};
+ghost use Rattle.station.specs.Passes.{AreNewPasses, IsStationPass};
+ghost use Rattle.session_script.specs.declared.words.TheConstants.{MOST_ACTORS};
+ghost use Rattle.session.specs.Lines.{commits_by};
+ghost use Rattle.session.specs.Seats.{HasCommitted, DidEdit, edits_of};
 ghost use Rattle.session.specs.Inner.Seats.{WouldBeEntered};
+ghost use Rattle.session.specs.Inner.Plans.{during_steps, lists_of};
+ghost use Rattle.session.specs.Inner.Acting.{AreApart, EditorsStand, Setting};
 
+use crate::plan::ByActor;
 use generation_catalogue::CommitFault;
 use oc_bytes::NoMemory;
 use path_tree::Edit;
 use section_workers::{Actor, Gate};
 use station::{Pass, Station};
 use std::alloc::{AllocError, Global};
+use std::collections::BTreeMap;
 use std::mem;
 use std::sync::Wait;
 
@@ -87,4 +94,64 @@ fn pass_lines<G: Gate>(gate: &G, actor: Actor, first: u32, lines: u32) -> u32 {
         gate.pass(actor, step);
     }
     end
+}
+
+/// A seat for each editor, with the pass of its place, its commits, and as many lines of edits as are counted.
+pub(crate) fn editor_seats(
+    alloc: Global,
+    station: &Station,
+    numbers: &[u32],
+    passes: Vec<Pass>,
+    mut commits: ByActor<CommitLine>,
+    mut edit_lines: BTreeMap<u32, u32>,
+) -> Result<Vec<EditorSeat>, NoMemory>
+    requires passes { AreNewPasses station.now 0 passes.items }
+    requires count { (length passes.items ≡ length numbers.now)
+        × (length numbers.now ≤ MOST_ACTORS) }
+    requires apart { AreApart numbers.now }
+    ensures { IfOk result (λ seats.
+        (setting : Setting)
+        → numbers.now ≡ setting.parts.editors.items
+        → ((n : ℕ)
+        → map edits_of (lists_of commits n) ≡ commits_by n (during_steps setting.parts))
+        → EditorsStand setting station.now [] seats.items) }
+{
+    let mut seats = Vec::with_capacity(alloc, numbers.len())?;
+    for pass in passes {
+        let number = numbers[seats.len()];
+        let rest = edit_lines.remove(&number).unwrap_or(0);
+        let its_commits = commits.take(number);
+        seats.push(EditorSeat {
+            number,
+            pass,
+            commits: its_commits,
+            rest,
+            whole: true,
+        })?;
+    }
+    Ok(seats)
+}
+
+/// The editor of this number commits before the start. Out of memory is the only refusal.
+pub(crate) fn commit_now<R: Wait>(
+    rt: &R,
+    station: &Station,
+    seats: &mut Vec<EditorSeat>,
+    editor: u32,
+    edits: Vec<Edit>,
+) -> Result<(), NoMemory>
+    requires { (setting : Setting)
+        × (done : List Step)
+        × EditorsStand setting station.now done seats.old.items }
+    ensures { OnOk result ((setting : Setting) (done : List Step)
+        → EditorsStand setting station.now done seats.old.items
+        → EditorsStand setting station.now (done ++ Commit editor edits.items ∷ [])
+        seats.new.items) }
+{
+    for place in 0..seats.len() {
+        if seats[place].number == editor {
+            return commit(rt, station, &mut seats[place].pass, edits);
+        }
+    }
+    Ok(())
 }

@@ -1,5 +1,5 @@
 //! What the feeder does.
-ghost use Rattle.std.specs.Prelude.{◌≡◌, ◌++◌, ◌∷◌, ◌+◌, ◌≤◌, [], List, ℕ, map, length, OnOk, All, Contains};
+ghost use Rattle.std.specs.Prelude.{◌≡◌, ◌++◌, ◌∷◌, ◌+◌, ◌≤◌, [], List, ℕ, map, length, OnOk, All};
 ghost use Rattle.std.specs.Arc.{arc_value};
 ghost use Rattle.path_tree.specs.Paths.{Bytes};
 ghost use Rattle.generation.specs.Layouts.{section_of, AreItemsOf};
@@ -73,15 +73,12 @@ pub(crate) fn send_and_show<R: Threads + Wait + Sync, G: Gate>(
         → HasShown (drawings ++ drawing_in batch.now fates.now ∷ []) downlink.new
         (shown_by shower.new)) }
 {
-    send(
-        rt,
-        alloc,
-        gate,
-        downlink,
-        &batch.generation,
-        &batch.items,
-        fates,
-    )?;
+    let Batch {
+        generation,
+        items,
+        ..
+    } = batch;
+    send(rt, alloc, gate, downlink, generation, items, fates)?;
     // The next number is one that the board may show, so it is there.
     let Some(number) = shower.front().number().checked_add(1) else {
         return Err(AllocError);

@@ -51,19 +51,13 @@
 #![tactic(auto)]
 
 mod actors;
-mod acts;
-mod by_actor;
 mod cast;
 mod editor;
-mod editors;
 mod ending;
 mod feeder;
 mod laws;
 mod plan;
 mod reader;
-mod readers;
-mod seating;
-mod threads;
 mod whole;
 
 pub use actors::run_actors;

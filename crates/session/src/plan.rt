@@ -1,24 +1,65 @@
 //! What each actor of a script's session has to do, split off before anybody runs.
-ghost use Rattle.std.specs.Prelude.{◌≡◌, ◌+◌, ◌≤◌, ◌^◌, ◌++◌, ◌∷◌, [], List, ℕ, map, length, IfOk, OnOk, OnErr, All};
-ghost use Rattle.session_script.specs.declared.parts.TaskLine.{TaskLine as TaskLines};
-ghost use Rattle.session_script.specs.Parts.{act_of, script_of_parts};
+ghost use Rattle.std.specs.Prelude.{◌≡◌, ◌+◌, ◌++◌, ◌∷◌, [], List, ℕ, map, length, IfOk, OnOk, All, ◌==◌, if◌then◌else◌, OnErr, ◌^◌, ◌≤◌};
+ghost use Rattle.session_script.specs.declared.script.TaskLine.{TaskLine as TaskLines};
+ghost use Rattle.session_script.specs.Scripts.{act_of, script_of_parts};
 ghost use Rattle.session_script.specs.Ranges.{IsInRange, IsInRanges};
 ghost use Rattle.carousel_world.specs.Events.{Step};
 ghost use Rattle.carousel_world.specs.World.{InRange};
-ghost use Rattle.rehearsal.specs.Lines.{Pending, events_of_line, pending_after};
-ghost use Rattle.rehearsal.specs.Happening.{Holds, view_happening};
+ghost use Rattle.rehearsal.specs.Lines.{Pending, Holds, view_happening};
+ghost use Rattle.history_merge.specs.Merged.{is_draw_step};
 ghost use Rattle.session.specs.Inner.Plans.{lists_of, AreInRange, HasSplit, IsPlanOf, events_at, finale_step, settling_lines, waiting_below, opens_by};
 ghost use Rattle.session.specs.Lines.{draws_in};
 
-use crate::by_actor::ByActor;
 use crate::editor::CommitLine;
 use crate::feeder::DrawLine;
 use oc_bytes::NoMemory;
 use path_tree::Path;
 use rehearsal::{Happening, Interpreter};
-use session_script::{Finale, Parts, Task, TaskLine};
+use session_script::{Finale, Parts, TaskLine};
 use std::alloc::{AllocError, Global};
 use std::collections::BTreeMap;
+
+/// A list for each actor's number: the commits of each editor, or the paths of each reader.
+#[derive(Drop)]
+pub(crate) struct ByActor<T: Drop> {
+    alloc: Global,
+    lists: BTreeMap<u32, Vec<T>>,
+}
+
+impl<T: Drop> ByActor<T> {
+    /// Nothing of anybody. It takes no memory.
+    fn new(alloc: Global) -> ByActor<T>
+        ensures { (n : ℕ) → lists_of result n ≡ [] }
+    {
+        ByActor {
+            alloc,
+            lists: BTreeMap::new(alloc),
+        }
+    }
+
+    /// One more of the actor, after its others. After out of memory, which is the only refusal, it is of no use any more.
+    fn push(&mut self, actor: u32, one: T) -> Result<(), NoMemory>
+        ensures { OnOk result ((n : ℕ)
+            → lists_of self.new n
+            ≡ (if n == actor then lists_of self.old n ++ one ∷ [] else lists_of self.old n)) }
+    {
+        let list = self
+            .lists
+            .entry(actor)?
+            .or_insert_with(|| Vec::new(self.alloc));
+        list.push(one)?;
+        Ok(())
+    }
+
+    /// Takes the actor's list out.
+    pub(crate) fn take(&mut self, actor: u32) -> Vec<T>
+        ensures list { result.items ≡ lists_of self.old actor }
+        ensures left { (n : ℕ)
+            → lists_of self.new n ≡ (if n == actor then [] else lists_of self.old n) }
+    {
+        self.lists.remove(&actor).unwrap_or(Vec::new(self.alloc))
+    }
+}
 
 /// A script's session before anybody runs.
 #[derive(Drop)]
@@ -56,25 +97,16 @@ pub(crate) fn plan_of(alloc: Global, parts: Parts) -> Result<Plan, NoMemory>
     requires { IsInRanges (script_of_parts parts) }
     ensures { IfOk result (λ plan. IsPlanOf parts plan) }
 {
-    let Parts {
-        editors,
-        readers,
-        before,
-        during,
-        settle,
-        finales,
-    } = parts;
     let mut interpreter = Interpreter::new(alloc);
-    let before = happenings(alloc, &mut interpreter, before)?;
-    let mut work = Work::new(alloc);
-    work.add_all(&mut interpreter, during)?;
-    let finales = by_reader(alloc, finales)?;
+    let before = happenings(alloc, &mut interpreter, parts.before)?;
+    let work = work_of(alloc, &mut interpreter, parts.during)?;
+    let finales = by_reader(alloc, parts.finales)?;
     Ok(Plan {
-        editors,
-        readers,
+        editors: parts.editors,
+        readers: parts.readers,
         before,
         work,
-        settles: settle.is_some(),
+        settles: parts.settle.is_some(),
         finales,
     })
 }
@@ -91,19 +123,9 @@ impl Plan {
             + length self.now.work.draws.items
             + length (settling_lines self.now.settles)) }
     {
-        sum_of(
-            count_draws(&self.before),
-            self.work.draws.len(),
-            count_settling(self.settles),
-        )
+        let settling = if self.settles { 2 } else { 0 };
+        sum_of(count_draws(&self.before), self.work.draws.len(), settling)
     }
-}
-
-/// How many draws `settle` makes, if it is asked for.
-fn count_settling(settles: bool) -> usize
-    ensures { result ≡ length (settling_lines settles) }
-{
-    if settles { 2 } else { 0 }
 }
 
 /// The sum of three counts. Out of memory comes only where it is no `usize`.
@@ -111,26 +133,22 @@ pub(crate) fn sum_of(first: usize, second: usize, third: usize) -> Result<usize,
     ensures sum { IfOk result (λ n. n ≡ first + second + third) }
     ensures memory { OnErr result (2 ^ 64 ≤ first + second + third) }
 {
-    let Some(both) = first.checked_add(second) else {
-        return Err(AllocError);
-    };
-    match both.checked_add(third) {
-        Some(all) => Ok(all),
-        None => Err(AllocError),
-    }
+    let both = first.checked_add(second).ok_or(AllocError)?;
+    both.checked_add(third).ok_or(AllocError)
 }
 
 /// How many of these are draws.
 fn count_draws(before: &[Happening]) -> usize
     ensures { result ≡ length (draws_in (map view_happening before.now)) }
 {
-    let mut draws = 0;
-    for what in before {
-        if matches!(what, Happening::Draw(..)) {
-            draws += 1;
-        }
-    }
-    draws
+    before.iter().filter(|what| is_draw(what)).count()
+}
+
+/// Whether it is a draw.
+fn is_draw(what: &Happening) -> bool
+    ensures { result ≡ is_draw_step (view_happening what.now) }
+{
+    matches!(what, Happening::Draw(..))
 }
 
 /// What happens at these tasks, which come next.
@@ -151,86 +169,41 @@ fn happenings(
 {
     let mut made = Vec::new(alloc);
     for line in tasks {
-        happen(interpreter, line.task, &mut made)?;
+        match interpreter.read(line.task)? {
+            Some(what) => made.push(what)?,
+            None => {}
+        }
     }
     Ok(made)
 }
 
-/// Adds what happens at a task, if something does.
-fn happen(
+/// What these tasks, which come next, ask of the actors.
+fn work_of(
+    alloc: Global,
     interpreter: &mut Interpreter,
-    task: Task,
-    made: &mut Vec<Happening>,
-) -> Result<(), NoMemory>
-    requires { IsInRange (act_of task) }
-    ensures happens { OnOk result ((p : Pending)
-        → Holds interpreter.old p
-        → map view_happening made.new.items
-        ≡ map view_happening made.old.items ++ events_of_line p (act_of task)) }
-    ensures range { OnOk result (AreInRange (map view_happening made.old.items)
-        → AreInRange (map view_happening made.new.items)) }
-    ensures waits { OnOk result ((p : Pending)
-        → Holds interpreter.old p
-        → Holds interpreter.new (pending_after p (act_of task))) }
+    tasks: Vec<TaskLine>,
+) -> Result<Work, NoMemory>
+    requires { All (λ (line : TaskLines). IsInRange (act_of line.task)) tasks.items }
+    ensures { IfOk result (λ work.
+        (p : Pending) → Holds interpreter.old p → HasSplit work (events_at p tasks.items)) }
 {
-    match interpreter.read(task)? {
-        Some(what) => {
-            made.push(what)?;
-            Ok(())
+    let mut work = Work {
+        commits: ByActor::new(alloc),
+        edit_lines: BTreeMap::new(alloc),
+        draws: Vec::new(alloc),
+        paths: ByActor::new(alloc),
+    };
+    for line in tasks {
+        let editor = line.task.editor();
+        match interpreter.read(line.task)? {
+            Some(what) => work.give(what)?,
+            None => work.count_line(editor)?,
         }
-        None => Ok(()),
     }
+    Ok(work)
 }
 
 impl Work {
-    /// Nothing for anybody. It takes no memory.
-    fn new(alloc: Global) -> Work
-        ensures { HasSplit result [] }
-    {
-        Work {
-            commits: ByActor::new(alloc),
-            edit_lines: BTreeMap::new(alloc),
-            draws: Vec::new(alloc),
-            paths: ByActor::new(alloc),
-        }
-    }
-
-    /// Adds what these tasks ask for, which come next. After a refusal it is of no use any more.
-    fn add_all(
-        &mut self,
-        interpreter: &mut Interpreter,
-        tasks: Vec<TaskLine>,
-    ) -> Result<(), NoMemory>
-        requires { All (λ (line : TaskLines). IsInRange (act_of line.task)) tasks.items }
-        ensures { OnOk result ((done : List Step) (p : Pending)
-            → HasSplit self.old done
-            → Holds interpreter.old p
-            → HasSplit self.new (done ++ events_at p tasks.items)) }
-    {
-        for line in tasks {
-            self.add(interpreter, line.task)?;
-        }
-        Ok(())
-    }
-
-    /// Adds what one task asks for.
-    fn add(&mut self, interpreter: &mut Interpreter, task: Task) -> Result<(), NoMemory>
-        requires { IsInRange (act_of task) }
-        ensures split { OnOk result ((done : List Step) (p : Pending)
-            → HasSplit self.old done
-            → Holds interpreter.old p
-            → HasSplit self.new (done ++ events_of_line p (act_of task))) }
-        ensures waits { OnOk result ((p : Pending)
-            → Holds interpreter.old p
-            → Holds interpreter.new (pending_after p (act_of task))) }
-    {
-        let editor = task.editor();
-        match interpreter.read(task)? {
-            Some(what) => self.give(what),
-            None => self.count_line(editor),
-        }
-    }
-
     /// Gives what happens to its actor.
     fn give(&mut self, what: Happening) -> Result<(), NoMemory>
         requires { InRange (view_happening what) }
@@ -240,7 +213,11 @@ impl Work {
     {
         match what {
             Happening::Commit(editor, edits) => {
-                let lines = self.take_lines(editor).saturating_add(1);
+                let lines = self
+                    .edit_lines
+                    .remove(&editor)
+                    .unwrap_or(0)
+                    .saturating_add(1);
                 self.commits.push(editor, CommitLine { lines, edits })
             }
             Happening::Draw(asked, fates) => {
@@ -251,26 +228,14 @@ impl Work {
         }
     }
 
-    /// How many lines of edits the editor has since its last commit, which are counted no more.
-    fn take_lines(&mut self, editor: u32) -> u32
-        ensures { (self.new.commits ≡ self.old.commits)
-            × (self.new.draws ≡ self.old.draws)
-            × (self.new.paths ≡ self.old.paths) }
-    {
-        self.edit_lines.remove(&editor).unwrap_or(0)
-    }
-
     /// Counts a line of an edit, at most the greatest `u32`.
     fn count_line(&mut self, editor: Option<u32>) -> Result<(), NoMemory>
-        ensures { (self.new.commits ≡ self.old.commits)
-            × (self.new.draws ≡ self.old.draws)
-            × (self.new.paths ≡ self.old.paths) }
+        ensures { (done : List Step) → HasSplit self.old done → HasSplit self.new done }
     {
-        let Some(editor) = editor else {
-            return Ok(());
-        };
-        let lines = self.take_lines(editor).saturating_add(1);
-        self.edit_lines.insert(editor, lines)?;
+        if let Some(editor) = editor {
+            let lines = self.edit_lines.entry(editor)?.or_insert(0);
+            *lines = lines.saturating_add(1);
+        }
         Ok(())
     }
 }

@@ -1,21 +1,19 @@
 //! A whole session.
 ghost use Rattle.std.specs.Prelude.{◌≡◌, map, length, IfOk};
-ghost use Rattle.session_script.specs.Parts.{script_of_parts};
+ghost use Rattle.session_script.specs.Scripts.{script_of_parts};
 ghost use Rattle.session_script.specs.Ranges.{AreListed, IsInRanges};
-ghost use Rattle.history_merge.specs.Merges.{known_view};
+ghost use Rattle.history_merge.specs.Merging.{known_view};
 ghost use Rattle.shot_board.specs.Showers.{shown_by};
 ghost use Rattle.session.specs.Sessions.{IsSession};
 ghost use Rattle.session.specs.Inner.Acting.{Setting};
 ghost use Rattle.session.specs.Inner.Casting.{IsBoardOf, IsBegun};
 
-use crate::acts::act_all;
 use crate::cast::Cast;
-use crate::editors::editor_seats;
+use crate::editor::editor_seats;
 use crate::ending::end;
 use crate::feeder::FeederSeat;
 use crate::plan::{Plan, Work, plan_of};
-use crate::seating::reader_seats;
-use crate::threads::run_all;
+use crate::reader::reader_seats;
 use carousel_profile::{CAROUSEL_PID, SCRIPT_CAROUSEL};
 use carousel_world::{Downlink, Event, Reply};
 use cycle_planner::Weigh;
@@ -25,15 +23,9 @@ use section_workers::Gate;
 use session_script::Parts;
 use shot_board::{Shower, Viewer, board};
 use station::Station;
-use std::alloc::{AllocError, Global};
+use std::alloc::Global;
 use std::sync::Wait;
 use std::thread::Threads;
-
-/// The PID on which a session sends.
-const PID: u16 = CAROUSEL_PID;
-
-/// The carousel of a session.
-const CAROUSEL: u32 = SCRIPT_CAROUSEL;
 
 /// Runs a script's session of carousel 1, each of whose modules is sent as often a cycle as it weighs, and gives its history.
 ///
@@ -58,7 +50,7 @@ pub fn play<R: Threads + Wait + Sync, G: Gate>(
         IsSession weigh.weights (script_of_parts parts) (map known_view told.items)) }
 {
     let plan = plan_of(alloc, parts)?;
-    let downlink = Downlink::new(alloc, PID)?;
+    let downlink = Downlink::new(alloc, CAROUSEL_PID)?;
     let first = downlink.shot(0, 0)?;
     let most = plan.count_draws()? as u64;
     let (mut shower, viewers) = board(rt, alloc, first, plan.readers.len() as u32, most)?;
@@ -118,7 +110,7 @@ fn perform<R: Threads + Wait + Sync, G: Gate>(
         draws,
         paths,
     } = work;
-    let (station, mut passes) = Station::new(alloc, editors.len() as u32, CAROUSEL, weigh)?;
+    let (station, mut passes) = Station::new(alloc, editors.len() as u32, SCRIPT_CAROUSEL, weigh)?;
     let Some(pass) = passes.pop() else {
         unreachable!()
     };
@@ -133,16 +125,7 @@ fn perform<R: Threads + Wait + Sync, G: Gate>(
         },
         readers: reader_seats(alloc, &readers, viewers, &before, paths, finales)?,
     };
-    act_all(rt, alloc, gate, &station, shower, &mut cast, before)?;
-    if !run_all(rt, alloc, gate, &station, shower, &mut cast) {
-        return Err(AllocError);
-    }
-    let Cast {
-        editors: seats,
-        feeder,
-        readers: watchers,
-    } = cast;
-    end(
-        rt, alloc, gate, station, seats, feeder, watchers, shower, settles, &editors,
-    )
+    cast.act_all(rt, alloc, gate, &station, shower, before)?;
+    cast.run(rt, alloc, gate, &station, shower)?;
+    end(rt, alloc, gate, station, cast, shower, settles, &editors)
 }

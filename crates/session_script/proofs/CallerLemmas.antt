@@ -4,11 +4,10 @@
 use Rattle.std.proofs.Common.{◌≡◌, ℕ, suc, ◌<◌, List, [], ◌∷◌, ◌++◌, length, map, drop, get_or, All, Option, sym, ap, ◌∙◌, subst, arith, ◌+◌}
 use Rattle.std.proofs.lemmas.List.{length-append, get_or_append_left, get_or-append-add, get_or-map, length-map}
 use Rattle.std.proofs.Math.Seq.{drop-cons, drop-length}
-use Rattle.session_script.specs.declared.parts.TaskLine.{TaskLine}
-use Rattle.session_script.specs.declared.parts.Finale.{Finale}
+use Rattle.session_script.specs.declared.script.TaskLine.{TaskLine}
+use Rattle.session_script.specs.declared.script.Finale.{Finale}
 use Rattle.session_script.specs.declared.script.Stage.TheVariants.{Before, During}
-use Rattle.session_script.specs.Scripts.{LineFields}
-use Rattle.session_script.specs.Parts.{act_of, task_line, settle_lines, finale_line, lines_of}
+use Rattle.session_script.specs.Scripts.{LineFields, act_of, task_line, settle_lines, finale_line, lines_of}
 use Rattle.session_script.specs.Ranges.{IsActor, IsInRange}
 pub use Rattle.session_script.proofs.Lists.{item_comes, items_came}
 

@@ -1,22 +1,77 @@
 -- The grammar of scripts: what a line says, which lines may stand where, and the first line that doesn't fit.
-use Rattle.std.specs.Prelude.{ℕ, ◌+◌, Bool, true, false, ◌==◌, not, List, [], ◌∷◌, ◌++◌, length, filter, Option, Some, None, Result, Ok, Err, if◌then◌else◌, filter_map}
+use Rattle.std.specs.Prelude.{ℕ, ◌+◌, Bool, true, false, ◌==◌, nat_le, List, [], ◌∷◌, ◌++◌, length, replicate, find, bytes_eq, codes, Option, Some, None, option_map, Result, Ok, Err, if◌then◌else◌, not, filter, filter_map}
 use Rattle.std.specs.List.{list_any, slice_split}
+use Rattle.std.specs.Option.{option_and_then}
+use Rattle.std.specs.Result.{result_ok}
 use Rattle.oc_bytes.specs.Outcome.{cap_at_u32}
 use Rattle.oc_bytes.specs.Decimals.{decimal_in}
+use Rattle.hex.specs.Hex.{decode_of}
 use Rattle.path_tree.specs.Paths.{Bytes, PathNames}
-use Rattle.session_script.specs.declared.keyword.Keyword.{Keyword}
-use Rattle.session_script.specs.declared.keyword.Keyword.TheVariants as keywords
+use Rattle.path_tree.specs.Texts.{path_of}
+use Rattle.ts_packet.specs.declared.Fate.{Fate}
+use Rattle.ts_packet.specs.declared.Fate.TheVariants.{Keep, Lose, Flip}
+use Rattle.session_script.specs.declared.line.Keyword.{Keyword}
+use Rattle.session_script.specs.declared.line.Keyword.TheVariants as keywords
 use Rattle.session_script.specs.declared.line.Part.{Part}
 use Rattle.session_script.specs.declared.line.Part.TheVariants.{Opening, Running, Closing}
 use Rattle.session_script.specs.declared.script.LineCause.{LineCause}
 use Rattle.session_script.specs.declared.script.LineCause.TheVariants.{Unknown, Order, BadNumber, BadPath, BadHex, BadFate, Missing, Extra}
 use Rattle.session_script.specs.declared.script.Stage.{Stage}
 use Rattle.session_script.specs.declared.script.Stage.TheVariants.{Before, During, After}
-use Rattle.session_script.specs.Keywords.{keyword_of}
-use Rattle.session_script.specs.Values.{actor_of, path_in, content_in, fates_of}
-use Rattle.session_script.specs.Scripts.{Fields, LineFields, Act, Put, Fill, Remove, MakeFolder, RemoveFolder, Commit, Draw, Open, Settle}
+use Rattle.session_script.specs.Scripts.{Fields, LineFields, Act, Put, Fill, Remove, MakeFolder, RemoveFolder, Commit, Draw, Open, Settle, editor_of, reader_of}
 use Rattle.cycle_planner.specs.declared.TheConstants.{MOST_DRAWN}
-use Rattle.session_script.specs.declared.line.TheConstants.{MOST_FILLED}
+use Rattle.session_script.specs.declared.words.TheConstants.{MOST_ACTORS, MOST_FATES, MOST_FILLED}
+
+-- ---- what single words stand for
+
+abbrev pub all_keywords : List (Bytes × Keyword)
+all_keywords =
+    (codes "put", keywords.Put) ∷ (codes "fill", keywords.Fill) ∷ (codes "remove", keywords.Remove) ∷ (codes "mkdir", keywords.MakeFolder)
+    ∷ (codes "rmdir", keywords.RemoveFolder) ∷ (codes "commit", keywords.Commit) ∷ (codes "draw", keywords.Draw) ∷ (codes "open", keywords.Open)
+    ∷ (codes "start", keywords.Start) ∷ (codes "settle", keywords.Settle) ∷ (codes "finale", keywords.Finale) ∷ []
+
+-- the keyword that a word is, byte for byte
+abbrev pub keyword_of : Bytes → Option Keyword
+keyword_of word = option_map (λ k. k.1) (find (λ k. bytes_eq word k.0) all_keywords)
+
+-- an editor or a reader
+abbrev pub actor_of : Bytes → Option ℕ
+actor_of word = decimal_in 1 MOST_ACTORS word
+
+abbrev pub path_in : Bytes → Option PathNames
+path_in word = result_ok (path_of word)
+
+-- `-` for no bytes, else two digits a byte and at least one byte
+abbrev pub content_in : Bytes → Option Bytes
+content_in [] = None
+content_in (c ∷ []) = if c == 45 then Some [] else None
+content_in (c ∷ d ∷ digits) = result_ok (decode_of (c ∷ d ∷ digits))
+
+-- `kCOUNT` keeps and `dCOUNT` loses so many packets, `fBIT` flips one bit of one packet
+abbrev pub fates_in : Bytes → Option (List Fate)
+fates_in [] = None
+fates_in (c ∷ number) =
+    if c == 107 then option_map (λ count. replicate count Keep) (decimal_in 1 MOST_FATES number)
+    else (if c == 100 then option_map (λ count. replicate count Lose) (decimal_in 1 MOST_FATES number)
+    else (if c == 102 then option_map (λ bit. Flip bit ∷ []) (decimal_in 0 1503 number)
+    else None))
+
+abbrev pub fates_onto : Option (List Fate) → Option (List Fate) → Option (List Fate)
+fates_onto (Some fates) (Some others) = Some (fates ++ others)
+fates_onto _ _ = None
+
+abbrev pub all_fates : List Bytes → Option (List Fate)
+all_fates [] = Some []
+all_fates (word ∷ words) = fates_onto (fates_in word) (all_fates words)
+
+abbrev pub within_limit : List Fate → Option (List Fate)
+within_limit fates = if nat_le (length fates) MOST_FATES then Some fates else None
+
+-- the fates of a draw, where each word is one and they aren't too many
+abbrev pub fates_of : List Bytes → Option (List Fate)
+fates_of words = option_and_then within_limit (all_fates words)
+
+-- ---- lines
 
 -- What a line says: nothing; that the session starts below it; what is done; what is done after all others.
 pub data Saying : Type 0 where
@@ -78,23 +133,19 @@ draw_by words = do
   fates ← or_cause BadFate [] (fates_of asked.1)
   Ok (Draw asked.0 fates.0)
 
-abbrev pub as_saying : {A : Type 0} → (A → Saying) → Result A LineCause → Result Saying LineCause
-as_saying says (Ok x) = Ok (says x)
-as_saying says (Err fault) = Err fault
-
 -- what the words after a line's first one say
 abbrev pub said_by : Keyword → List Bytes → Result Saying LineCause
-said_by keywords.Put words = as_saying Does (put_by words)
-said_by keywords.Fill words = as_saying Does (fill_by words)
-said_by keywords.Remove words = as_saying (λ named. Does (Remove named.0 named.1)) (named_by words)
-said_by keywords.MakeFolder words = as_saying (λ named. Does (MakeFolder named.0 named.1)) (named_by words)
-said_by keywords.RemoveFolder words = as_saying (λ named. Does (RemoveFolder named.0 named.1)) (named_by words)
-said_by keywords.Commit words = as_saying Does (commit_by words)
-said_by keywords.Draw words = as_saying Does (draw_by words)
-said_by keywords.Open words = as_saying (λ named. Does (Open named.0 named.1)) (named_by words)
+said_by keywords.Put words = put_by words >>= λ act. Ok (Does act)
+said_by keywords.Fill words = fill_by words >>= λ act. Ok (Does act)
+said_by keywords.Remove words = named_by words >>= λ named. Ok (Does (Remove named.0 named.1))
+said_by keywords.MakeFolder words = named_by words >>= λ named. Ok (Does (MakeFolder named.0 named.1))
+said_by keywords.RemoveFolder words = named_by words >>= λ named. Ok (Does (RemoveFolder named.0 named.1))
+said_by keywords.Commit words = commit_by words >>= λ act. Ok (Does act)
+said_by keywords.Draw words = draw_by words >>= λ act. Ok (Does act)
+said_by keywords.Open words = named_by words >>= λ named. Ok (Does (Open named.0 named.1))
 said_by keywords.Start words = no_more Starts words
 said_by keywords.Settle words = no_more (Ends Settle) words
-said_by keywords.Finale words = as_saying (λ named. Ends (Open named.0 named.1)) (named_by words)
+said_by keywords.Finale words = named_by words >>= λ named. Ok (Ends (Open named.0 named.1))
 
 -- ---- which lines may stand where
 
@@ -159,19 +210,6 @@ sayings above [] = Ok above
 sayings above (line ∷ lines) = or_bad_line (length above + 1) (λ saying. sayings (above ++ saying ∷ []) lines) (line_by (part_of above) line)
 
 -- ---- what is said as a script
-
-abbrev pub editor_of : Act → Option ℕ
-editor_of (Put editor path content) = Some editor
-editor_of (Fill editor path size from) = Some editor
-editor_of (Remove editor path) = Some editor
-editor_of (MakeFolder editor path) = Some editor
-editor_of (RemoveFolder editor path) = Some editor
-editor_of (Commit editor) = Some editor
-editor_of _ = None
-
-abbrev pub reader_of : Act → Option ℕ
-reader_of (Open reader path) = Some reader
-reader_of _ = None
 
 abbrev pub who : (Act → Option ℕ) → Saying → Option ℕ
 who actor (Does act) = actor act

@@ -1,8 +1,4 @@
-pub mod Texts
 pub mod Scripts
-pub mod Parts
-pub mod Keywords
-pub mod Values
 pub mod Grammar
 pub mod Memory
 pub mod Ranges

@@ -1,20 +1,17 @@
 -- Where a script asks for memory. Whether a text is a path is known only once the path was made, so a line whose words fit up
 -- to its path asks for memory already.
-use Rattle.std.specs.Prelude.{◌≡◌, Bool, true, false, ◌==◌, ◌&&◌, ◌||◌, List, [], ◌∷◌, ◌++◌, Option, Some, None, is_some, Result, Ok, Err, if◌then◌else◌}
+use Rattle.std.specs.Prelude.{◌≡◌, Bool, true, false, ◌==◌, ◌&&◌, ◌||◌, List, [], ◌∷◌, ◌++◌, Option, Some, None, is_some, Result, Ok, if◌then◌else◌}
 use Rattle.path_tree.specs.Paths.{Bytes}
-use Rattle.session_script.specs.declared.keyword.Keyword.{Keyword}
-use Rattle.session_script.specs.declared.keyword.Keyword.TheVariants as keywords
+use Rattle.session_script.specs.declared.line.Keyword.{Keyword}
+use Rattle.session_script.specs.declared.line.Keyword.TheVariants as keywords
 use Rattle.session_script.specs.declared.line.Part.{Part}
 use Rattle.session_script.specs.declared.script.LineCause.{LineCause}
-use Rattle.session_script.specs.Keywords.{keyword_of}
-use Rattle.session_script.specs.Values.{actor_of}
-use Rattle.session_script.specs.Grammar.{Saying, Does, Ends, said_by, may_stand, words_in, lines_in, part_of, sayings}
+use Rattle.session_script.specs.Grammar.{keyword_of, actor_of, Saying, Does, Ends, said_by, may_stand, words_in, lines_in, part_of, sayings}
 
 -- the words begin with an actor, and the word of a path follows
 abbrev pub reaches_path : List Bytes → Bool
-reaches_path [] = false
-reaches_path (actor ∷ []) = false
 reaches_path (actor ∷ path ∷ words) = is_some (actor_of actor)
+reaches_path _ = false
 
 abbrev pub has_path : Keyword → Bool
 has_path keywords.Commit = false

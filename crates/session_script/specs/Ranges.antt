@@ -3,8 +3,7 @@ use Rattle.std.specs.Prelude.{ℕ, ◌≤◌, ◌<◌, nat_eq, List, length, All
 use Rattle.std.specs.List.{IsDistinct}
 use Rattle.session_script.specs.Scripts.{Act, Put, Fill, Remove, MakeFolder, RemoveFolder, Commit, Draw, Open, Settle, LineFields, Fields}
 use Rattle.cycle_planner.specs.declared.TheConstants.{MOST_DRAWN}
-use Rattle.session_script.specs.declared.line.TheConstants.{MOST_FILLED}
-use Rattle.session_script.specs.declared.values.TheConstants.{MOST_ACTORS, MOST_FATES}
+use Rattle.session_script.specs.declared.words.TheConstants.{MOST_FILLED, MOST_ACTORS, MOST_FATES}
 
 pub record IsActor (n : ℕ) : Type 0 where
   pub at_least : 1 ≤ n

@@ -1,17 +1,38 @@
 //! A generated script.
-ghost use Rattle.std.specs.Prelude.{◌≡◌, ◌+◌, ◌≤◌, ◌<◌, ◌^◌, map, length, IfOk};
+ghost use Rattle.std.specs.Prelude.{◌≡◌, ◌+◌, ◌++◌, ◌∷◌, ◌≤◌, ◌<◌, ◌^◌, true, [], map, length, IfOk, OnOk, flat_map};
 ghost use Rattle.oc_bytes.specs.Outcome.{MakesList};
+ghost use Rattle.path_tree.specs.Texts.{is_name};
 ghost use Rattle.session_script.specs.declared.script.Stage.TheVariants.{During, After};
-ghost use Rattle.session_script.specs.Scripts.{Open};
-ghost use Rattle.session_script.specs.Parts.{act_of, task_line, finale_line, script_of_parts};
+ghost use Rattle.session_script.specs.Scripts.{act_of, AddsActs, task_line, finale_line, script_of_parts};
 ghost use Rattle.session_script.specs.Ranges.{AreListed, IsInRanges};
-ghost use Rattle.session_script.specs.Generated.{numbers as numbers_to, number_lines, generated_script};
+ghost use Rattle.session_script.specs.Generated.{number_lines, generated_script};
+ghost use Rattle.session_script.specs.Generated as specs;
 
-use crate::parts::{Finale, Parts, Task, TaskLine};
-use crate::tasks::{paths_at_end, tasks_during};
+use crate::script::{Finale, Parts, Task, TaskLine};
 use oc_bytes::NoMemory;
 use path_tree::Path;
-use std::alloc::Global;
+use std::alloc::{AllocError, Global};
+use ts_packet::Fate;
+
+/// How many files a commit puts.
+const FILES_IN_COMMIT: u32 = 8;
+
+/// How many commits an editor makes.
+const COMMITS: u32 = 4;
+
+/// How many files an editor puts.
+const FILES: u32 = FILES_IN_COMMIT * COMMITS;
+
+/// How often a reader opens a path before the end.
+const OPENS: u32 = 64;
+
+/// How many draws the feeder makes, and for how many items each of them asks.
+const DRAWS: u32 = 64;
+
+const ITEMS: u32 = 256;
+
+/// How many packets arrive before one is lost.
+const KEPT: usize = 49;
 
 /// The reader who opens all files at the end.
 const LAST_READER: u32 = 1;
@@ -33,7 +54,6 @@ pub fn generated(alloc: Global, size: u32) -> Result<Parts, NoMemory>
     ensures listed { IfOk result (λ parts. AreListed (script_of_parts parts)) }
 {
     let tasks = tasks_during(alloc, size)?;
-    let paths = paths_at_end(alloc, size)?;
     let settle = tasks.len() as u32 + 1;
     Ok(Parts {
         editors: numbers(alloc, size)?,
@@ -41,20 +61,87 @@ pub fn generated(alloc: Global, size: u32) -> Result<Parts, NoMemory>
         before: Vec::new(alloc),
         during: number_tasks(alloc, tasks)?,
         settle: Some(settle),
-        finales: number_finales(alloc, settle + 1, paths)?,
+        finales: finales(alloc, size, settle + 1)?,
     })
 }
 
 /// The numbers 1 to `size`.
 fn numbers(alloc: Global, size: u32) -> Result<Vec<u32>, NoMemory>
     requires { size ≤ 16 }
-    ensures { MakesList result (numbers_to size) }
+    ensures { MakesList result (specs.numbers size) }
 {
-    let mut list = Vec::new(alloc);
-    for number in 1..size + 1 {
-        list.push(number)?;
+    (1..size + 1).collect(alloc)
+}
+
+/// All that the actors do before the end.
+fn tasks_during(alloc: Global, size: u32) -> Result<Vec<Task>, NoMemory>
+    requires least { 1 ≤ size }
+    requires most { size ≤ 16 }
+    ensures acts { IfOk result (λ tasks. map act_of tasks.items ≡ specs.acts_during size) }
+    ensures few { IfOk result (λ tasks. length tasks.items ≤ 1664) }
+{
+    let mut tasks = Vec::new(alloc);
+    put_files(alloc, &mut tasks, size)?;
+    put_draws(alloc, &mut tasks)?;
+    put_opens(alloc, &mut tasks, size)?;
+    Ok(tasks)
+}
+
+/// All that the editors do: each puts eight files and commits them, again and again.
+fn put_files(alloc: Global, tasks: &mut Vec<Task>, size: u32) -> Result<(), NoMemory>
+    requires { size ≤ 16 }
+    ensures { OnOk result (AddsActs tasks.old tasks.new
+        (flat_map specs.lines_of_editor (specs.numbers size))) }
+{
+    for editor in 1..size + 1 {
+        for commit in 0..COMMITS {
+            for place in 0..FILES_IN_COMMIT {
+                let file = FILES_IN_COMMIT * commit + place;
+                let path = file_path(alloc, editor, file)?;
+                let kind = editor + file;
+                let bytes = 500 * (1 + kind % 40);
+                tasks.push(Task::Fill(editor, path, bytes, (kind % 256) as u8))?;
+            }
+            tasks.push(Task::Commit(editor))?;
+        }
     }
-    Ok(list)
+    Ok(())
+}
+
+/// All that the feeder does.
+fn put_draws(alloc: Global, tasks: &mut Vec<Task>) -> Result<(), NoMemory>
+    ensures { OnOk result (AddsActs tasks.old tasks.new specs.lines_of_feeder) }
+{
+    for _draw in 0..DRAWS {
+        tasks.push(Task::Draw(ITEMS, fates(alloc)?))?;
+    }
+    Ok(())
+}
+
+/// The fates of a draw's packets.
+#[tactic(auto, unfolding(crate::specs::Generated::fates))]
+fn fates(alloc: Global) -> Result<Vec<Fate>, NoMemory>
+    ensures { MakesList result specs.fates }
+{
+    let mut fates = vec![in alloc; Fate::Keep; KEPT]?;
+    fates.push(Fate::Lose)?;
+    Ok(fates)
+}
+
+/// All that the readers do before the end.
+fn put_opens(alloc: Global, tasks: &mut Vec<Task>, size: u32) -> Result<(), NoMemory>
+    requires least { 1 ≤ size }
+    requires most { size ≤ 16 }
+    ensures { OnOk result (AddsActs tasks.old tasks.new
+        (flat_map (specs.lines_of_reader size) (specs.numbers size))) }
+{
+    for reader in 1..size + 1 {
+        for turn in 0..OPENS {
+            let path = file_path(alloc, 1 + (reader + turn) % size, turn % FILES)?;
+            tasks.push(Task::Open(reader, path))?;
+        }
+    }
+    Ok(())
 }
 
 /// A line for each task, numbered from 1 on.
@@ -72,21 +159,51 @@ fn number_tasks(alloc: Global, tasks: Vec<Task>) -> Result<Vec<TaskLine>, NoMemo
     Ok(lines)
 }
 
-/// A finale of the first reader for each path, numbered from `first` on.
-fn number_finales(alloc: Global, first: u32, paths: Vec<Path>) -> Result<Vec<Finale>, NoMemory>
-    requires { first + length paths.items < 2 ^ 32 }
-    ensures { IfOk result (λ finales.
-        map finale_line finales.items ≡ number_lines first After (map (Open 1) paths.items)) }
+/// The opens of all files at the end, by their editors, numbered from `first` on.
+fn finales(alloc: Global, size: u32, first: u32) -> Result<Vec<Finale>, NoMemory>
+    requires size { size ≤ 16 }
+    requires room { first + 512 < 2 ^ 32 }
+    ensures { IfOk result (λ finales. map finale_line finales.items
+        ≡ number_lines first After (flat_map specs.finales_of (specs.numbers size))) }
 {
     let mut finales = Vec::new(alloc);
     let mut number = first;
-    for path in paths {
-        finales.push(Finale {
-            number,
-            reader: LAST_READER,
-            path,
-        })?;
-        number += 1;
+    for editor in 1..size + 1 {
+        for file in 0..FILES {
+            finales.push(Finale {
+                number,
+                reader: LAST_READER,
+                path: file_path(alloc, editor, file)?,
+            })?;
+            number += 1;
+        }
     }
     Ok(finales)
+}
+
+/// The path of a file of an editor, 1 to 16; the file is 0 to 31.
+fn file_path(alloc: Global, editor: u32, file: u32) -> Result<Path, NoMemory>
+    requires editor { editor ≤ 16 }
+    requires file { file < 32 }
+    ensures { IfOk result (λ path. path ≡ specs.file_path editor file) }
+{
+    let Ok(root) = Path::parse(alloc, b"/") else {
+        return Err(AllocError);
+    };
+    let first = format!(in alloc; "e{editor}")?;
+    let folder = entry(&root, first.as_str())?;
+    let second = format!(in alloc; "f{file}")?;
+    entry(&folder, second.as_str())
+}
+
+/// The path of an entry of this folder, whose name is one that a path may have.
+fn entry(folder: &Path, name: &str) -> Result<Path, NoMemory>
+    requires name { is_name name.now ≡ true }
+    requires depth { length folder.now < 16 }
+    ensures { IfOk result (λ entry. entry ≡ folder.now ++ name.now ∷ []) }
+{
+    match folder.below(name.as_bytes())? {
+        Some(entry) => Ok(entry),
+        None => unreachable!(),
+    }
 }

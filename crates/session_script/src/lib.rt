@@ -21,19 +21,14 @@
 #![tactic(auto)]
 
 mod generator;
-mod keyword;
-mod limits;
 mod line;
-mod number;
-mod parts;
 mod reading;
 mod script;
-mod tasks;
-mod values;
 mod words;
 
 pub use generator::generated;
-pub use limits::limits_are_numbers;
-pub use parts::{Finale, Parts, Task, TaskLine};
 pub use reading::{parse, read_parts};
-pub use script::{Action, Line, LineCause, Script, ScriptFault, Stage};
+pub use script::{
+    Action, Finale, Line, LineCause, Parts, Script, ScriptFault, Stage, Task, TaskLine,
+};
+pub use words::limits_are_numbers;

@@ -1,22 +1,73 @@
 //! What one line says.
-ghost use Rattle.std.specs.Prelude.{◌≡◌, Err, true, is_ok, IfOk};
+ghost use Rattle.std.specs.Prelude.{◌≡◌, Err, true, is_ok, IfOk, bytes_eq};
 ghost use Rattle.oc_bytes.specs.Outcome.{Gives};
-ghost use Rattle.session_script.specs.Grammar.{named_by, draw_by, said_by, may_stand, in_words, line_by, Ends, Starts};
+ghost use Rattle.session_script.specs.Scripts.{act_of};
+ghost use Rattle.session_script.specs.Ranges.{IsActor, IsInRange};
+ghost use Rattle.session_script.specs.Grammar.{keyword_of, put_by, fill_by, commit_by, named_by, draw_by, said_by, line_by};
 ghost use Rattle.session_script.specs.Grammar as grammar;
-ghost use Rattle.session_script.specs.Memory.{reaches_path, asks_by, asks_in_words, line_asks};
-ghost use Rattle.session_script.specs.Inner.Steps.{words_left, line_cause, view_said, is_said_by, Suits};
+ghost use Rattle.session_script.specs.Memory.{reaches_path, asks_by, line_asks};
+ghost use Rattle.session_script.specs.Inner.{words_left, line_cause, view_said, Suits, SaysInRange};
 
-use crate::keyword::Keyword;
-use crate::parts::Task;
-use crate::script::LineCause;
-use crate::values::{actor, content, fates, number, path};
-use crate::words::{LineFault, Words};
+use crate::script::{LineCause, Task};
+use crate::words::{LineFault, MOST_FILLED, Words, actor, content, fates, number, path};
 use cycle_planner::MOST_DRAWN;
-use path_tree::{MOST_CONTENT, Path};
+use path_tree::Path;
 use std::alloc::Global;
 
-/// The most bytes that a line fills a file with: one more than a file may have.
-pub const MOST_FILLED: u32 = MOST_CONTENT as u32 + 1;
+/// The first word of a line.
+#[derive(Clone, Copy)]
+pub enum Keyword {
+    Put,
+    Fill,
+    Remove,
+    MakeFolder,
+    RemoveFolder,
+    Commit,
+    Draw,
+    Open,
+    Start,
+    Settle,
+    Finale,
+}
+
+impl Keyword {
+    /// The keyword that a word is, byte for byte.
+    pub fn parse(word: &[u8]) -> Option<Keyword>
+        ensures { result ≡ keyword_of word.now }
+    {
+        if is(word, "put") {
+            Some(Keyword::Put)
+        } else if is(word, "fill") {
+            Some(Keyword::Fill)
+        } else if is(word, "remove") {
+            Some(Keyword::Remove)
+        } else if is(word, "mkdir") {
+            Some(Keyword::MakeFolder)
+        } else if is(word, "rmdir") {
+            Some(Keyword::RemoveFolder)
+        } else if is(word, "commit") {
+            Some(Keyword::Commit)
+        } else if is(word, "draw") {
+            Some(Keyword::Draw)
+        } else if is(word, "open") {
+            Some(Keyword::Open)
+        } else if is(word, "start") {
+            Some(Keyword::Start)
+        } else if is(word, "settle") {
+            Some(Keyword::Settle)
+        } else if is(word, "finale") {
+            Some(Keyword::Finale)
+        } else {
+            None
+        }
+    }
+}
+
+fn is(word: &[u8], text: &str) -> bool
+    ensures { result ≡ bytes_eq word.now text.now }
+{
+    word == text.as_bytes()
+}
 
 /// The part of a script that a line stands in.
 #[derive(Clone, Copy, Debug, PartialEq, Eq)]
@@ -45,65 +96,62 @@ pub enum Said {
 }
 
 /// `EDITOR PATH HEX`
-fn put(alloc: Global, mut words: Words) -> Result<Said, LineFault>
-    ensures gives { Gives view_said line_cause result
-        (said_by Keyword.Put (words_left words.entry)) }
+fn put(alloc: Global, mut words: Words) -> Result<Task, LineFault>
+    ensures gives { Gives act_of line_cause result (put_by (words_left words.entry)) }
+    ensures range { IfOk result (λ task. IsInRange (act_of task)) }
     ensures memory { result ≡ Err LineFault.NoMemory
         → reaches_path (words_left words.entry) ≡ true }
-    ensures kind { IfOk result (λ said. is_said_by Keyword.Put said ≡ true) }
 {
     let editor = actor(&mut words)?;
     let path = path(alloc, &mut words)?;
     let content = content(alloc, &mut words)?;
     words.end()?;
-    Ok(Said::Does(Task::Put(editor, path, content)))
+    Ok(Task::Put(editor, path, content))
 }
 
 /// `EDITOR PATH LENGTH FROM`
-fn fill(alloc: Global, mut words: Words) -> Result<Said, LineFault>
-    ensures gives { Gives view_said line_cause result
-        (said_by Keyword.Fill (words_left words.entry)) }
+fn fill(alloc: Global, mut words: Words) -> Result<Task, LineFault>
+    ensures gives { Gives act_of line_cause result (fill_by (words_left words.entry)) }
+    ensures range { IfOk result (λ task. IsInRange (act_of task)) }
     ensures memory { result ≡ Err LineFault.NoMemory
         → reaches_path (words_left words.entry) ≡ true }
-    ensures kind { IfOk result (λ said. is_said_by Keyword.Fill said ≡ true) }
 {
     let editor = actor(&mut words)?;
     let path = path(alloc, &mut words)?;
     let size = number(&mut words, 0, MOST_FILLED)?;
     let from = number(&mut words, 0, 255)?;
     words.end()?;
-    Ok(Said::Does(Task::Fill(editor, path, size, from as u8)))
+    Ok(Task::Fill(editor, path, size, from as u8))
 }
 
 /// `EDITOR`
-fn commit(mut words: Words) -> Result<Said, LineFault>
-    ensures gives { Gives view_said line_cause result
-        (said_by Keyword.Commit (words_left words.entry)) }
+fn commit(mut words: Words) -> Result<Task, LineFault>
+    ensures gives { Gives act_of line_cause result (commit_by (words_left words.entry)) }
+    ensures range { IfOk result (λ task. IsInRange (act_of task)) }
     ensures plain { result ≡ Err LineFault.NoMemory → ⊥ }
-    ensures kind { IfOk result (λ said. is_said_by Keyword.Commit said ≡ true) }
 {
     let editor = actor(&mut words)?;
     words.end()?;
-    Ok(Said::Does(Task::Commit(editor)))
+    Ok(Task::Commit(editor))
 }
 
 /// `N FATE..`
-fn draw(alloc: Global, mut words: Words) -> Result<Said, LineFault>
-    ensures gives { Gives view_said line_cause result
-        (said_by Keyword.Draw (words_left words.entry)) }
+fn draw(alloc: Global, mut words: Words) -> Result<Task, LineFault>
+    ensures gives { Gives act_of line_cause result (draw_by (words_left words.entry)) }
+    ensures range { IfOk result (λ task. IsInRange (act_of task)) }
     ensures memory { result ≡ Err LineFault.NoMemory
         → is_ok (draw_by (words_left words.entry)) ≡ true }
-    ensures kind { IfOk result (λ said. is_said_by Keyword.Draw said ≡ true) }
 {
     let asked = number(&mut words, 1, MOST_DRAWN)?;
     let fates = fates(alloc, words)?;
-    Ok(Said::Does(Task::Draw(asked, fates)))
+    Ok(Task::Draw(asked, fates))
 }
 
 /// `EDITOR PATH` or `READER PATH`
 fn named(alloc: Global, mut words: Words) -> Result<(u32, Path), LineFault>
     ensures gives { Gives (λ named. (named.0, named.1)) line_cause result
         (named_by (words_left words.entry)) }
+    ensures range { IfOk result (λ named. IsActor named.0) }
     ensures memory { result ≡ Err LineFault.NoMemory
         → reaches_path (words_left words.entry) ≡ true }
 {
@@ -113,16 +161,18 @@ fn named(alloc: Global, mut words: Words) -> Result<(u32, Path), LineFault>
     Ok((actor, path))
 }
 
-/// What the words after a line's first one say.
-fn say(alloc: Global, keyword: Keyword, mut words: Words) -> Result<Said, LineFault>
+/// What the words after a line's first one say, where a line of this keyword may stand.
+fn say(alloc: Global, part: Part, keyword: Keyword, mut words: Words) -> Result<Said, LineFault>
+    requires { grammar.may_stand part keyword ≡ true }
     ensures gives { Gives view_said line_cause result (said_by keyword (words_left words.entry)) }
+    ensures suits { IfOk result (λ said. Suits part (view_said said)) }
+    ensures range { IfOk result (λ said. SaysInRange (view_said said)) }
     ensures memory { result ≡ Err LineFault.NoMemory
         → asks_by keyword (words_left words.entry) ≡ true }
-    ensures kind { IfOk result (λ said. is_said_by keyword said ≡ true) }
 {
     match keyword {
-        Keyword::Put => put(alloc, words),
-        Keyword::Fill => fill(alloc, words),
+        Keyword::Put => Ok(Said::Does(put(alloc, words)?)),
+        Keyword::Fill => Ok(Said::Does(fill(alloc, words)?)),
         Keyword::Remove => {
             let (editor, path) = named(alloc, words)?;
             Ok(Said::Does(Task::Remove(editor, path)))
@@ -135,8 +185,8 @@ fn say(alloc: Global, keyword: Keyword, mut words: Words) -> Result<Said, LineFa
             let (editor, path) = named(alloc, words)?;
             Ok(Said::Does(Task::RemoveFolder(editor, path)))
         }
-        Keyword::Commit => commit(words),
-        Keyword::Draw => draw(alloc, words),
+        Keyword::Commit => Ok(Said::Does(commit(words)?)),
+        Keyword::Draw => Ok(Said::Does(draw(alloc, words)?)),
         Keyword::Open => {
             let (reader, path) = named(alloc, words)?;
             Ok(Said::Does(Task::Open(reader, path)))
@@ -167,33 +217,27 @@ fn may_stand(part: Part, keyword: Keyword) -> bool
     }
 }
 
-/// What the words of a line say that isn't passed over.
-fn say_all(alloc: Global, part: Part, mut words: Words) -> Result<Said, LineFault>
-    ensures gives { Gives view_said line_cause result (in_words part (words_left words.entry)) }
-    ensures memory { result ≡ Err LineFault.NoMemory
-        → asks_in_words part (words_left words.entry) ≡ true }
-    ensures suits { IfOk result (λ said. Suits part said) }
-{
-    let Some(first) = words.next() else {
-        return Ok(Said::Passed);
-    };
-    let Some(keyword) = Keyword::parse(first) else {
-        return Err(LineFault::Bad(LineCause::Unknown));
-    };
-    if !may_stand(part, keyword) {
-        return Err(LineFault::Bad(LineCause::Order));
-    }
-    say(alloc, keyword, words)
-}
-
 /// What a line says in this part, or why it doesn't fit.
 pub fn read_line(alloc: Global, part: Part, line: &[u8]) -> Result<Said, LineFault>
     ensures gives { Gives view_said line_cause result (line_by part line.now) }
+    ensures suits { IfOk result (λ said. Suits part (view_said said)) }
+    ensures range { IfOk result (λ said. SaysInRange (view_said said)) }
     ensures memory { result ≡ Err LineFault.NoMemory → line_asks part line.now ≡ true }
-    ensures suits { IfOk result (λ said. Suits part said) }
 {
     match line {
         [] | [b'#', ..] => Ok(Said::Passed),
-        _ => say_all(alloc, part, Words::of(line)),
+        _ => {
+            let mut words = Words::of(line);
+            let Some(first) = words.next() else {
+                return Ok(Said::Passed);
+            };
+            let Some(keyword) = Keyword::parse(first) else {
+                return Err(LineFault::Bad(LineCause::Unknown));
+            };
+            if !may_stand(part, keyword) {
+                return Err(LineFault::Bad(LineCause::Order));
+            }
+            say(alloc, part, keyword, words)
+        }
     }
 }

@@ -1,21 +1,17 @@
 //! A script, read line by line.
-ghost use Rattle.std.specs.Prelude.{◌≡◌, ◌+◌, ◌<◌, true, Ok, Err, [], List, length, map, IfOk, OnOk, OnErr, IsErrOf};
-ghost use Rattle.oc_bytes.specs.Outcome.{Gives, MakesList};
-ghost use Rattle.session_script.specs.Inner.Readings.{with_mention};
-ghost use Rattle.session_script.specs.Scripts.{cause};
+ghost use Rattle.std.specs.Prelude.{◌≡◌, ◌<◌, true, Ok, Err, [], List, length, IfOk, OnOk, OnErr, IsErrOf};
+ghost use Rattle.oc_bytes.specs.Outcome.{Gives};
+ghost use Rattle.session_script.specs.Scripts.{cause, script_of_parts};
 ghost use Rattle.session_script.specs.Scripts as scripts;
-ghost use Rattle.session_script.specs.Parts.{act_of, script_of_parts};
-ghost use Rattle.session_script.specs.Grammar.{editor_of, meaning_of, reader_of};
+ghost use Rattle.session_script.specs.Grammar.{meaning_of};
+ghost use Rattle.session_script.specs.Inner.{with_actor};
 ghost use Rattle.session_script.specs.Memory.{AsksForMemory};
 ghost use Rattle.session_script.specs.Ranges.{AreListed, IsInRanges};
 
 use crate::line::{Part, Said, read_line};
-use crate::parts::{Finale, Parts, Task, TaskLine};
-use crate::script::{Script, ScriptFault};
+use crate::script::{Finale, Parts, Script, ScriptFault, TaskLine};
 use crate::words::LineFault;
-use indexmap::IndexSet;
 use oc_bytes::NoMemory;
-use path_tree::Path;
 use std::alloc::Global;
 use std::mem;
 
@@ -27,36 +23,30 @@ struct Reading {
     number: u32,
     /// The part of the script that is reached.
     part: Part,
-    editors: IndexSet<u32>,
-    readers: IndexSet<u32>,
-    before: Vec<TaskLine>,
-    during: Vec<TaskLine>,
-    settle: Option<u32>,
-    finales: Vec<Finale>,
+    parts: Parts,
 }
 
 impl Reading {
-    ghost use Rattle.session_script.specs.Parts.{act_of};
-    ghost use Rattle.session_script.specs.Scripts.{Open};
-    ghost use Rattle.session_script.specs.Grammar.{Saying, Starts, Does, Ends};
+    ghost use Rattle.session_script.specs.Grammar.{Saying};
     ghost use Rattle.session_script.specs.Memory.{line_asks, is_kept};
-    ghost use Rattle.session_script.specs.Inner.Steps.{view_said, Suits};
-    ghost use Rattle.session_script.specs.Inner.Readings.{StandsFor, Adds, IsShaped, Reads, lines_read};
-    ghost use Rattle.session_script.specs.declared.line.Part.TheVariants.{Opening, Closing};
+    ghost use Rattle.session_script.specs.Inner.{view_said, Suits, StandsFor, Adds, IsShaped, Reads};
 
     fn new(alloc: Global) -> Reading
         ensures { StandsFor result [] }
     {
-        Reading {
-            alloc,
-            number: 0,
-            part: Part::Opening,
-            editors: IndexSet::new(alloc),
-            readers: IndexSet::new(alloc),
+        let parts = Parts {
+            editors: Vec::new(alloc),
+            readers: Vec::new(alloc),
             before: Vec::new(alloc),
             during: Vec::new(alloc),
             settle: None,
             finales: Vec::new(alloc),
+        };
+        Reading {
+            alloc,
+            number: 0,
+            part: Part::Opening,
+            parts,
         }
     }
 
@@ -82,140 +72,54 @@ impl Reading {
 
     /// Adds what the line says whose number stands.
     fn add(&mut self, said: Said) -> Result<(), NoMemory>
-        requires { Suits self.old.part said }
+        requires { Suits self.old.part (view_said said) }
         ensures adds { OnOk result (IsShaped self.old → Adds self.old self.new (view_said said)) }
         ensures memory { OnErr result (is_kept (Ok (view_said said)) ≡ true) }
     {
+        let number = self.number;
         match said {
             Said::Passed => Ok(()),
             Said::Starts => {
-                self.start();
+                self.part = Part::Running;
+                self.parts.before = mem::replace(&mut self.parts.during, Vec::new(self.alloc));
                 Ok(())
             }
-            Said::Does(task) => self.keep(task),
+            Said::Does(task) => {
+                mention(&mut self.parts.editors, task.editor())?;
+                mention(&mut self.parts.readers, task.reader())?;
+                self.parts.during.push(TaskLine { number, task })?;
+                Ok(())
+            }
             Said::Settles => {
                 self.part = Part::Closing;
-                self.settle = Some(self.number);
+                self.parts.settle = Some(number);
                 Ok(())
             }
-            Said::Finale(reader, path) => self.keep_finale(reader, path),
+            Said::Finale(reader, path) => {
+                self.part = Part::Closing;
+                mention(&mut self.parts.readers, Some(reader))?;
+                self.parts.finales.push(Finale {
+                    number,
+                    reader,
+                    path,
+                })?;
+                Ok(())
+            }
         }
     }
-
-    /// All tasks so far stand above `start`.
-    fn start(&mut self)
-        requires { self.old.part ≡ Opening }
-        ensures { IsShaped self.old → Adds self.old self.new Starts }
-    {
-        self.part = Part::Running;
-        self.before = mem::replace(&mut self.during, Vec::new(self.alloc));
-    }
-
-    /// Keeps the task of the line whose number stands.
-    fn keep(&mut self, task: Task) -> Result<(), NoMemory>
-        requires { self.old.part ≡ Closing → ⊥ }
-        ensures { OnOk result (IsShaped self.old → Adds self.old self.new (Does (act_of task))) }
-    {
-        mention_actor(&mut self.editors, &mut self.readers, &task)?;
-        self.during.push(TaskLine {
-            number: self.number,
-            task,
-        })?;
-        Ok(())
-    }
-
-    /// Keeps the finale of the line whose number stands.
-    fn keep_finale(&mut self, reader: u32, path: Path) -> Result<(), NoMemory>
-        ensures { OnOk result (IsShaped self.old
-            → Adds self.old self.new (Ends (Open reader path))) }
-    {
-        self.part = Part::Closing;
-        mention(&mut self.readers, Some(reader))?;
-        self.finales.push(Finale {
-            number: self.number,
-            reader,
-            path,
-        })?;
-        Ok(())
-    }
-
-    /// The parts that the lines make.
-    fn finish(self) -> Result<Parts, NoMemory>
-        ensures parts { IfOk result (λ parts.
-            script_of_parts parts
-            ≡ record {
-              editors = self.editors.keys;
-              readers = self.readers.keys;
-              lines = lines_read
-                  self;
-            }) }
-        ensures memory { OnErr result (0 < length self.editors.keys + length self.readers.keys) }
-    {
-        let (editors, readers) = self.actors()?;
-        Ok(self.into_parts(editors, readers))
-    }
-
-    /// The editors and the readers, in their order.
-    fn actors(&self) -> Result<(Vec<u32>, Vec<u32>), NoMemory>
-        ensures editors { IfOk result (λ lists. lists.0.items ≡ self.now.editors.keys) }
-        ensures readers { IfOk result (λ lists. lists.1.items ≡ self.now.readers.keys) }
-        ensures memory { OnErr result
-            (0 < length self.now.editors.keys + length self.now.readers.keys) }
-    {
-        let editors = listed(self.alloc, &self.editors)?;
-        let readers = listed(self.alloc, &self.readers)?;
-        Ok((editors, readers))
-    }
-
-    /// The parts of these editors and readers.
-    fn into_parts(self, editors: Vec<u32>, readers: Vec<u32>) -> Parts
-        ensures { script_of_parts result
-            ≡ record { editors = editors.items; readers = readers.items; lines = lines_read self } }
-    {
-        Parts {
-            editors,
-            readers,
-            before: self.before,
-            during: self.during,
-            settle: self.settle,
-            finales: self.finales,
-        }
-    }
-}
-
-/// Puts the editor or the reader whose task it is last, unless it is there.
-fn mention_actor(
-    editors: &mut IndexSet<u32>,
-    readers: &mut IndexSet<u32>,
-    task: &Task,
-) -> Result<(), NoMemory>
-    ensures editors { OnOk result
-        (editors.new.keys ≡ with_mention (editor_of (act_of task.now)) editors.old.keys) }
-    ensures readers { OnOk result
-        (readers.new.keys ≡ with_mention (reader_of (act_of task.now)) readers.old.keys) }
-{
-    mention(editors, task.editor())?;
-    mention(readers, task.reader())
 }
 
 /// Puts an actor last that isn't there.
-fn mention(actors: &mut IndexSet<u32>, actor: Option<u32>) -> Result<(), NoMemory>
-    ensures { OnOk result (actors.new.keys ≡ with_mention actor actors.old.keys) }
+fn mention(actors: &mut Vec<u32>, actor: Option<u32>) -> Result<(), NoMemory>
+    ensures { OnOk result (actors.new.items ≡ with_actor actors.old.items actor) }
 {
-    if let Some(actor) = actor {
-        actors.insert(actor)?;
+    let Some(actor) = actor else {
+        return Ok(());
+    };
+    if !actors.contains(&actor) {
+        actors.push(actor)?;
     }
     Ok(())
-}
-
-/// The actors, in their order.
-fn listed(alloc: Global, actors: &IndexSet<u32>) -> Result<Vec<u32>, NoMemory>
-    ensures list { MakesList result actors.now.keys }
-    ensures memory { OnErr result (0 < length actors.now.keys) }
-{
-    let mut list = Vec::with_capacity(alloc, actors.len())?;
-    list.extend_from_slice(actors.as_slice())?;
-    Ok(list)
 }
 
 /// Reads a script in its parts, or names its first line that doesn't fit. The language is this project's own.
@@ -260,7 +164,7 @@ pub fn read_parts(alloc: Global, text: &[u8]) -> Result<Parts, ScriptFault>
     for line in text.split(|byte| *byte == b'\n') {
         reading.read(line)?;
     }
-    Ok(reading.finish()?)
+    Ok(reading.parts)
 }
 
 /// Reads a script as [`read_parts`] does, as one list of lines. Memory is taken for the list too.

@@ -1,20 +1,46 @@
-//! A line's words, taken from the left, and why a line is refused.
-ghost use Rattle.std.specs.Prelude.{◌≡◌, ◌∷◌, [], MatchOption, OnOk, IfErr, length, ◌<◌, position, option_map};
-ghost use Rattle.session_script.specs.Grammar.{is_space, words_in};
-ghost use Rattle.session_script.specs.Inner.Steps.{words_of_rest};
+//! A line's words, taken from the left, what single words stand for, and why a line is refused.
+ghost use Rattle.std.specs.Prelude.{◌≡◌, ◌∷◌, [], ◌≤◌, ◌<◌, Err, length, replicate, option_map, MatchOption, OnOk, IfErr, IfOk, IfSome, IsSome, position};
+ghost use Rattle.std.specs.Option.{ok_or};
+ghost use Rattle.std.specs.Result.{result_ok};
+ghost use Rattle.oc_bytes.specs.Outcome.{Gives};
+ghost use Rattle.oc_bytes.specs.Decimals.{decimal_in};
+ghost use Rattle.hex.specs.Hex.{decode_of};
+ghost use Rattle.session_script.specs.Grammar.{actor_of, path_in, content_in, fates_in, fates_of, is_space, words_in, word_by};
+ghost use Rattle.session_script.specs.Ranges.{IsActor};
+ghost use Rattle.session_script.specs.Inner.{words_left, line_cause, Takes};
 
 use crate::script::LineCause;
-use std::alloc::{AllocError, AllocFailed};
-use thiserror::Error;
+use hex::FromHexError;
+use oc_bytes::{Blob, decimal};
+use path_tree::{MOST_CONTENT, Path, PathFault};
+use std::alloc::{AllocError, Global};
+use ts_packet::Fate;
+
+/// The most editors, and the most readers.
+pub const MOST_ACTORS: u32 = 64;
+
+/// The most fates of one draw.
+pub const MOST_FATES: u32 = 65_536;
+
+/// The most bytes that a line fills a file with: one more than a file may have.
+pub const MOST_FILLED: u32 = MOST_CONTENT as u32 + 1;
+
+/// The last bit of a packet, which has 188 bytes.
+const LAST_BIT: u32 = 1_503;
+
+/// The limits of a script: its editors, and its readers; the fates of a draw; the bytes of a filled file.
+pub fn limits_are_numbers()
+    ensures actors { MOST_ACTORS ≡ 64 }
+    ensures fates { MOST_FATES ≡ 65536 }
+    ensures filled { MOST_FILLED ≡ 16777217 }
+{}
 
 /// Why a line can't be read.
-#[derive(Clone, Copy, Debug, PartialEq, Eq, Error)]
+#[derive(Clone, Copy)]
 pub enum LineFault {
     /// It doesn't fit, for this cause.
-    #[error(transparent)]
     Bad(LineCause),
     /// No memory was found.
-    #[error("out of memory")]
     NoMemory,
 }
 
@@ -37,7 +63,8 @@ pub struct Words<'a> {
 }
 
 impl<'a> Words<'a> {
-    ghost use Rattle.session_script.specs.Inner.Steps.{words_left, TakesWord};
+    ghost use Rattle.std.specs.Prelude.{MatchResult};
+    ghost use Rattle.session_script.specs.Inner.{words_left};
 
     /// All words of a line. Even an empty line has one, the empty word.
     pub fn of(line: &'a [u8]) -> Words<'a>
@@ -52,14 +79,18 @@ impl<'a> Words<'a> {
             (λ word. words_left self.old ≡ word.now ∷ words_left self.new) }
     {
         let text = self.rest?;
-        let (word, rest) = first_word(text);
-        self.rest = rest;
-        Some(word)
+        let Some(end) = first_space(text) else {
+            self.rest = None;
+            return Some(text);
+        };
+        self.rest = Some(&text[end + 1..]);
+        Some(&text[..end])
     }
 
     /// Takes the next word, which has to be there.
     pub fn word(&mut self) -> Result<&'a [u8], LineFault>
-        ensures { TakesWord (λ word. word.now) result (words_left self.old) (words_left self.new) }
+        ensures { MatchResult result (λ word. words_left self.old ≡ word.now ∷ words_left self.new)
+            (λ e. (e ≡ LineFault.Bad LineCause.Missing) × (words_left self.old ≡ [])) }
     {
         match self.next() {
             Some(word) => Ok(word),
@@ -86,13 +117,113 @@ fn first_space(text: &[u8]) -> Option<usize>
     text.iter().position(|byte| *byte == b' ')
 }
 
-/// The text up to the first space, and what follows that space where there is one.
-fn first_word(text: &[u8]) -> (&[u8], Option<&[u8]>)
-    ensures { words_in text.now
-        ≡ result.0.now ∷ words_of_rest (option_map (λ rest. rest.now) result.1) }
+/// Takes a number of a range.
+pub fn number(words: &mut Words, least: u32, greatest: u32) -> Result<u32, LineFault>
+    ensures takes { Takes (λ n. n) result (words_left words.new)
+        (word_by (decimal_in least greatest) LineCause.BadNumber (words_left words.old)) }
+    ensures least { IfOk result (λ n. least ≤ n) }
+    ensures greatest { IfOk result (λ n. n ≤ greatest) }
+    ensures plain { result ≡ Err LineFault.NoMemory → ⊥ }
 {
-    match first_space(text) {
-        Some(end) => (&text[..end], Some(&text[end + 1..])),
-        None => (text, None),
+    let word = words.word()?;
+    decimal(word, least, greatest).ok_or(LineFault::Bad(LineCause::BadNumber))
+}
+
+/// Takes the number of an editor or of a reader, 1 to [`MOST_ACTORS`].
+pub fn actor(words: &mut Words) -> Result<u32, LineFault>
+    ensures takes { Takes (λ n. n) result (words_left words.new)
+        (word_by actor_of LineCause.BadNumber (words_left words.old)) }
+    ensures range { IfOk result (λ n. IsActor n) }
+    ensures plain { result ≡ Err LineFault.NoMemory → ⊥ }
+{
+    number(words, 1, MOST_ACTORS)
+}
+
+/// Takes a path.
+pub fn path(alloc: Global, words: &mut Words) -> Result<Path, LineFault>
+    ensures takes { Takes (λ path. path) result (words_left words.new)
+        (word_by path_in LineCause.BadPath (words_left words.old)) }
+    ensures memory { result ≡ Err LineFault.NoMemory → 0 < length (words_left words.old) }
+{
+    let word = words.word()?;
+    match Path::parse(alloc, word) {
+        Ok(path) => Ok(path),
+        Err(PathFault::NoMemory) => Err(LineFault::NoMemory),
+        Err(_) => Err(LineFault::Bad(LineCause::BadPath)),
     }
+}
+
+/// Takes a file's bytes: `-` for none, else two hexadecimal digits for each.
+pub fn content(alloc: Global, words: &mut Words) -> Result<Blob, LineFault>
+    ensures takes { Takes (λ blob. blob) result (words_left words.new)
+        (word_by content_in LineCause.BadHex (words_left words.old)) }
+{
+    let word = words.word()?;
+    let bytes = match word {
+        [] => return Err(LineFault::Bad(LineCause::BadHex)),
+        b"-" => Vec::new(alloc),
+        digits => bytes_of(alloc, digits)?,
+    };
+    Ok(Blob::new(alloc, bytes)?)
+}
+
+/// The bytes that hexadecimal digits write.
+fn bytes_of(alloc: Global, digits: &[u8]) -> Result<Vec<u8>, LineFault>
+    ensures { Gives (λ bytes. bytes.items) line_cause result
+        (ok_or (result_ok (decode_of digits.now)) LineCause.BadHex) }
+{
+    match hex::decode(alloc, digits) {
+        Ok(bytes) => Ok(bytes),
+        Err(FromHexError::OutOfMemory) => Err(LineFault::NoMemory),
+        Err(_) => Err(LineFault::Bad(LineCause::BadHex)),
+    }
+}
+
+/// What one word of a draw says: a fate, and how many packets have it one after another, 1 to [`MOST_FATES`].
+fn fate_run(word: &[u8]) -> Option<(Fate, usize)>
+    ensures fates { option_map (λ run. replicate run.1 run.0) result ≡ fates_in word.now }
+    ensures most { IfSome result (λ run. run.1 ≤ MOST_FATES) }
+{
+    match word {
+        [b'k', count @ ..] => Some((Fate::Keep, decimal(count, 1, MOST_FATES)? as usize)),
+        [b'd', count @ ..] => Some((Fate::Lose, decimal(count, 1, MOST_FATES)? as usize)),
+        [b'f', bit @ ..] => Some((Fate::Flip(decimal(bit, 0, LAST_BIT)? as u16), 1)),
+        _ => None,
+    }
+}
+
+/// How many fates the words that are left make, 0 to [`MOST_FATES`], where each word makes some.
+fn fate_count(mut words: Words) -> Option<usize>
+    ensures count { result ≡ option_map length (fates_of (words_left words.entry)) }
+    ensures most { IfSome result (λ n. n ≤ MOST_FATES) }
+{
+    let mut count = 0;
+    while let Some(word) = words.next() {
+        let (_, packets) = fate_run(word)?;
+        count += packets;
+        if count > MOST_FATES as usize {
+            return None;
+        }
+    }
+    Some(count)
+}
+
+/// The fates that the words that are left make. Memory is asked for once they are known to fit.
+pub fn fates(alloc: Global, mut words: Words) -> Result<Vec<Fate>, LineFault>
+    ensures gives { Gives (λ fates. fates.items) line_cause result
+        (ok_or (fates_of (words_left words.entry)) LineCause.BadFate) }
+    ensures most { IfOk result (λ fates. length fates.items ≤ MOST_FATES) }
+    ensures memory { result ≡ Err LineFault.NoMemory → IsSome (fates_of (words_left words.entry)) }
+{
+    let Some(count) = fate_count(words) else {
+        return Err(LineFault::Bad(LineCause::BadFate));
+    };
+    let mut fates = Vec::with_capacity(alloc, count)?;
+    while let Some(word) = words.next() {
+        let Some((fate, packets)) = fate_run(word) else {
+            return Err(LineFault::Bad(LineCause::BadFate));
+        };
+        fates.resize(fates.len() + packets, fate)?;
+    }
+    Ok(fates)
 }

@@ -10,7 +10,7 @@ use Rattle.carousel_world.specs.Events.{Step}
 use Rattle.carousel_world.specs.Promises.{MeetsHeadline}
 use Rattle.rehearsal.specs.Lines.{events_of}
 use Rattle.rehearsal.specs.Reports.{report_of}
-use Rattle.rehearsal.specs.Rehearsals as runs
+use Rattle.rehearsal.specs.Reports as runs
 use Rattle.shell_streams.specs.Cuts.{Bytes}
 use Rattle.shell_streams.specs.Packets.{Stopped, is_longer}
 use Rattle.shell_streams.specs.Sending.{OutputState}

@@ -18,11 +18,9 @@ use Rattle.generation_catalogue.specs.declared.journal.TheConstants.{MOST_DRAWS,
 use Rattle.mount_table.specs.declared.mount.TheConstants as tables
 use Rattle.watch_desk.specs.declared.TheConstants as desks
 use Rattle.path_listing.specs.declared.walking.TheConstants.{MOST_LISTED}
-use Rattle.session_script.specs.declared.values.TheConstants.{MOST_ACTORS, MOST_FATES}
-use Rattle.session_script.specs.declared.line.TheConstants.{MOST_FILLED}
+use Rattle.session_script.specs.declared.words.TheConstants.{MOST_ACTORS, MOST_FATES, MOST_FILLED}
 use Rattle.shell_streams.specs.declared.packets.TheConstants.{MOST_PACKETS}
-use Rattle.shell_words.specs.declared.parsing.TheConstants.{MOST_CYCLES, MOST_AIR_CYCLES}
-use Rattle.shell_words.specs.declared.parsing.TheConstants.{MOST_BITRATE, MOST_BIG}
+use Rattle.shell_words.specs.declared.parsing.TheConstants.{MOST_CYCLES, MOST_AIR_CYCLES, MOST_BITRATE, MOST_BIG}
 use Rattle.shell_words.specs.declared.table.TheConstants.{MOST_MOUNT_NAME}
 use Rattle.shell_words.specs.declared.values.TheConstants as words
 use Rattle.receiver_commands.specs.declared.assemble.TheConstants.{MOST_ASSEMBLED, ASSEMBLED_BLOCK}

@@ -1,4 +1,3 @@
-pub mod Numerals
 pub mod Naming
 pub mod Tabling
 pub mod Faults

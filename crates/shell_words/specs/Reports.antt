@@ -1,4 +1,4 @@
--- What the lines of a report say of a reply: this project's own texts.
+-- What the lines of a report say of an event and of its reply: this project's own texts.
 use Rattle.std.specs.Prelude.{ℕ, [], ◌∷◌, ◌++◌, Option, Some, None, codes}
 use Rattle.std.specs.List.{flat_map}
 use Rattle.std.specs.Fmt.{decimal}

@@ -2,7 +2,6 @@
 
 ghost use Rattle.std.specs.Prelude.{◌≡◌, ◌≤◌, ◌<◌, length, IfOk, IfSome};
 ghost use Rattle.std.specs.String.{string_bytes};
-ghost use Rattle.std.specs.List.{list_all};
 ghost use Rattle.oc_bytes.specs.Outcome.{Gives};
 ghost use Rattle.shell_words.specs.Values.{word_bytes};
 ghost use Rattle.oc_bytes.specs.Decimals as decimals;
@@ -31,7 +30,7 @@ pub fn pid(text: &str) -> Option<u16>
     ensures value { result ≡ values.pid_in text.now }
     ensures bound { IfSome result (λ pid. pid ≤ MOST_PID) }
 {
-    let pid = number(text, 0, MOST_PID)?;
+    let pid = oc_bytes::decimal(text.as_bytes(), 0, MOST_PID)?;
     Some(pid as u16)
 }
 
@@ -41,46 +40,7 @@ pub fn decimal(word: &String, least: u32, greatest: u32) -> Option<u32>
     ensures least { IfSome result (λ n. least ≤ n) }
     ensures greatest { IfSome result (λ n. n ≤ greatest) }
 {
-    number(word.as_str(), least, greatest)
-}
-
-/// The number that a text spells, from `least` to `greatest`: decimal digits without a sign and without a leading zero.
-fn number(text: &str, least: u32, greatest: u32) -> Option<u32>
-    ensures value { result ≡ decimals.decimal_in least greatest text.now }
-    ensures least { IfSome result (λ n. least ≤ n) }
-    ensures greatest { IfSome result (λ n. n ≤ greatest) }
-{
-    if !is_decimal(text.as_bytes()) {
-        return None;
-    }
-    let Ok(number) = text.parse::<u32>() else {
-        return None;
-    };
-    if number < least {
-        return None;
-    }
-    if number <= greatest {
-        Some(number)
-    } else {
-        None
-    }
-}
-
-/// Whether the text is decimal digits without a leading zero, or `0`.
-fn is_decimal(text: &[u8]) -> bool
-    ensures { result ≡ decimals.is_decimal text.now }
-{
-    match text {
-        [] => false,
-        [only] => only.is_ascii_digit(),
-        [first, ..] => *first != b'0' && are_digits(text),
-    }
-}
-
-fn are_digits(text: &[u8]) -> bool
-    ensures { result ≡ list_all decimals.is_digit text.now }
-{
-    text.iter().all(|c| c.is_ascii_digit())
+    oc_bytes::decimal(word.as_bytes(), least, greatest)
 }
 
 /// The paths of one or more words.

@@ -18,7 +18,7 @@ view p = record { pid = p.pid; start = p.start; counter = p.counter; payload = p
 abbrev pub control : List ℕ → ℕ
 control bytes = slice_index bytes 3 / 16 % 4
 
--- the fields, or the first fault that holds; the payload are the bytes after the header of four, and after the
+-- the fields, or the first fault that holds; the payload is the bytes after the header of four, and after the
 -- adaptation field's length and its bytes
 abbrev pub parse_packet : List ℕ → Result Fields PacketFault
 parse_packet bytes =

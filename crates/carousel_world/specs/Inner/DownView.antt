@@ -6,7 +6,7 @@ use Rattle.section_stream.specs.Rules as rules
 use Rattle.tuner_core.specs.Stands as tuning
 use Rattle.carousel_world.specs.DownView.{DownlinkState}
 
--- the same after these packets more
+-- what stood for packets stands for them with these behind them
 pub record Hears (d e : DownlinkState) (came : List Bytes) : Type 0 where
   pub spent : e.spent ≡ d.spent
   pub one_pid : e.demux.pid ≡ d.demux.pid

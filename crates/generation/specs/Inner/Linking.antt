@@ -1,19 +1,27 @@
--- Groups of things: those of a list that are in a group, one after another.
-use Rattle.std.specs.Prelude.{◌≡◌, ◌<◌, ◌==◌, ℕ, Bool, false, List, [], ◌∷◌, get_or, Option, Some, None, if◌then◌else◌}
+-- Objects in groups: those that stand in a folder, or that lie in a module, one after another.
+use Rattle.std.specs.Prelude.{◌≡◌, ◌<◌, ◌==◌, ℕ, Bool, false, List, [], map, get_or, Option, Some, None}
+use Rattle.std.specs.Global.{Vec}
+use Rattle.std.specs.List.{filter}
+use Rattle.generation.specs.declared.objects.Placed.{Placed}
+use Rattle.generation.specs.declared.links.By.{By}
+use Rattle.generation.specs.declared.links.By.TheVariants.{Folder, Module}
 
-abbrev pub is_of : ℕ → Option ℕ → Bool
-is_of group (Some g) = g == group
-is_of group None = false
+-- the group that an object is in
+abbrev pub group_by : By → Placed → Option ℕ
+group_by Folder o = o.spot.parent
+group_by Module o = Some o.«module»
+
+abbrev pub is_group : ℕ → Option ℕ → Bool
+is_group group (Some g) = g == group
+is_group group None = false
+
+abbrev pub is_of : By → ℕ → Placed → Bool
+is_of by group o = is_group group (group_by by o)
 
 abbrev pub IsBelow : ℕ → Option ℕ → Type 0
 IsBelow count (Some g) = g < count
 IsBelow count None = Unit {0}
 
--- those of a list that are in a group, where each has the group that is listed at its place
-abbrev pub members_in : {A : Type 0} → ℕ → List (Option ℕ) → List A → List A
-members_in group (g ∷ gs) (x ∷ xs) = if is_of group g then x ∷ members_in group gs xs else members_in group gs xs
-members_in group _ _ = []
-
 -- under each group's number its members
-abbrev pub AreMembers : {A : Type 0} → List (Option ℕ) → List A → List (List A) → Type 0
-AreMembers groups xs lists = (group : ℕ) → get_or lists group [] ≡ members_in group groups xs
+abbrev pub AreMembers : By → List Placed → List (Vec Placed) → Type 0
+AreMembers by objects lists = (group : ℕ) → get_or (map (λ m. m.items) lists) group [] ≡ filter (is_of by group) objects

@@ -1,16 +1,10 @@
--- Where an object is looked for among those of another tree, which stand in the order of paths.
-use Rattle.std.specs.Prelude.{List, [], ◌∷◌, Option, Some, None, if◌then◌else◌}
-use Rattle.std.specs.Ordering.{is_lt}
+-- Objects of one tree beside those of another, both in the order of paths.
+use Rattle.std.specs.Prelude.{◌≡◌, List}
+use Rattle.std.specs.declared.cmp.Ordering.TheVariants.{Less}
 use Rattle.path_tree.specs.Paths.{PathNames, path_cmp}
 use Rattle.generation.specs.Publication.{Spot}
-use Rattle.generation.specs.Layouts.{Placed, is_same_spot}
+use Rattle.generation.specs.Layouts.{Placed, placed_at}
 
--- the objects that don't come before a path
-abbrev pub from_path : PathNames → List Placed → List Placed
-from_path p [] = []
-from_path p (o ∷ os) = if is_lt (path_cmp o.spot.path p) then from_path p os else o ∷ os
-
--- the first of these objects, where it has the path and the kind
-abbrev pub first_same : List Placed → Spot → Option Placed
-first_same [] s = None
-first_same (o ∷ os) s = if is_same_spot o.spot s then Some o else None
+-- of what isn't before a path there is the same among those that are left as among all
+abbrev pub AreLeft : PathNames → List Placed → List Placed → Type 0
+AreLeft p all left = (r : Spot) → ((q : PathNames) → path_cmp q p ≡ Less → path_cmp q r.path ≡ Less) → placed_at all r ≡ placed_at left r

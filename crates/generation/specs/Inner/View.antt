@@ -1,24 +1,26 @@
 -- What holds of what a generation is made of, and of what it keeps.
-use Rattle.std.specs.Prelude.{◌≡◌, ◌≤◌, ◌<◌, ℕ, Bool, true, false, List, [], ◌∷◌, zero, suc, length, map, get_or, Some, None}
+use Rattle.std.specs.Prelude.{◌≡◌, ◌≤◌, ◌<◌, ℕ, Bool, true, List, zero, suc, length, map, Some, None}
 use Rattle.std.specs.List.{All, zip}
 use Rattle.path_tree.specs.Trees.{Tree, IsTree, is_a_file}
 use Rattle.biop_object.specs.Names.{Layout, module_in}
 use Rattle.biop_object.specs.declared.written.FolderKind.{FolderKind}
 use Rattle.biop_object.specs.declared.written.FolderKind.TheVariants.{Directory, Gateway}
 use Rattle.cycle_planner.specs.Cycle.{AreLines}
+use Rattle.module_packer.specs.Placement.{IsPlacement}
 use Rattle.generation.specs.Publication.{spots_of, sizes_of, limit_of, gateway_spot, AreRising}
-use Rattle.generation.specs.Layouts.{Placed as PlacedState, lines_of, object_bytes, layout_of, greatest, placed_at, module_of, same_module}
-use Rattle.generation.specs.Inner.Linking.{IsBelow}
+use Rattle.generation.specs.Layouts.{Placed as PlacedState, lines_of, layout_of, greatest, placed_at, module_of, same_module}
+use Rattle.generation.specs.Inner.Linking.{AreMembers}
+use Rattle.generation.specs.declared.links.By.TheVariants.{Folder, Module}
 use Rattle.generation.specs.declared.spots.Spot.{Spot}
 use Rattle.generation.specs.declared.limit.Publishable.TheInside.{Inside as CheckedInside}
 use Rattle.generation.specs.declared.limit.Weighed.{Weighed}
+use Rattle.generation.specs.declared.objects.Objects.{Objects}
 use Rattle.generation.specs.declared.objects.Placed.{Placed}
 use Rattle.generation.specs.declared.made.Listed.{Listed}
 use Rattle.generation.specs.declared.made.Generation.TheInside.{Inside}
-use Rattle.biop_object.specs.declared.written.TheConstants.{MOST_FOLDER_SIZE}
 use Rattle.dsi_dii.specs.declared.TheConstants.{LAST_GENERATION, MOST_TOTAL_SIZE}
 use Rattle.module_groups.specs.declared.TheConstants.{GREATEST_ID}
-use Rattle.generation.specs.View.{item_at, path_at, view_spot, view_placed, view_listed, view_generation}
+use Rattle.generation.specs.View.{item_at, path_at, view_spot, view_listed, objects_in, view_generation}
 
 abbrev pub is_file_at : Tree → ℕ → Bool
 is_file_at t i = is_a_file (item_at t i).1
@@ -61,35 +63,32 @@ pub record AreOld (old : List PlacedState) : Type 0 where
   pub ids : All (λ o. IsId o.module_id) old
   pub gateway : (m : ℕ) → module_of (placed_at old gateway_spot) ≡ Some m → m ≡ 1
 
+-- the objects of a tree that can be published, in the modules of a placement of their sizes
+pub record ArePlaced (t : Tree) (objects : List PlacedState) : Type 0 where
+  pub tree : IsTree t
+  pub within : limit_of t ≡ None
+  pub spots : map (λ o. o.spot) objects ≡ spots_of t
+  pub placement : IsPlacement GREATEST_ID (sizes_of t) (map (λ o. o.module_id) objects)
+
+-- objects that are placed, with their groups
+pub record AreReady (o : Objects) : Type 0 where
+  pub placed : ArePlaced o.tree (objects_in o)
+  pub spots : All (λ x. IsSpotIn o.tree x.spot) o.all.items
+  pub ids : All (λ x. IsId x.«module») o.all.items
+  pub last : greatest (map (λ x. x.«module») o.all.items) ≤ GREATEST_ID
+  pub folders : AreMembers Folder o.all.items o.folders.items
+  pub modules : AreMembers Module o.all.items o.modules.items
+
 -- what holds of what is kept: the layout is that of the objects, the lines are those of the layout and make a cycle, and
 -- numbers have room in their fields
 pub record IsMade (g : Inside) : Type 0 where
-  pub tree : IsTree g.tree
-  pub layout : map view_listed g.modules.items ≡ layout_of g.carousel (map (view_placed g.tree) g.objects.items)
+  pub ready : AreReady g.objects
+  pub layout : map view_listed g.modules.items ≡ layout_of g.carousel (objects_in g.objects)
   pub lines : g.lines.items ≡ lines_of (view_generation g)
   pub cycle : AreLines g.lines.items
   pub number : g.number ≤ LAST_GENERATION
   pub counts : All (λ c. c ≤ g.number) g.counts.items
-  pub modules : length g.modules.items ≤ GREATEST_ID
   pub sizes : All (λ m. length m.1 ≤ MOST_TOTAL_SIZE) (map view_listed g.modules.items)
-  pub spots : All (λ o. IsSpotIn g.tree o.spot) g.objects.items
-  pub old : AreOld (view_generation g).objects
-
--- objects that name their folders: each has the number of its place, and where it stands in a folder, that is one of them
-pub record AreFoldered (objects : List Placed) : Type 0 where
-  pub numbers : (i : ℕ) (d : Placed) → i < length objects → (get_or objects i d).spot.number ≡ i
-  pub parents : All (λ o. IsBelow (length objects) o.spot.parent) objects
-
--- objects that have bytes: each lies in the tree, no folder is too large, and the modules have room in their fields
-pub record AreReady (carousel : ℕ) (t : Tree) (objects : List Placed) : Type 0 where
-  pub tree : IsTree t
-  pub spots : All (λ o. IsSpotIn t o.spot) objects
-  pub foldered : AreFoldered objects
-  pub folders : All (λ o. o.spot.whole ≡ false → length (object_bytes carousel (map (view_placed t) objects) (view_placed t o)) ≤ MOST_FOLDER_SIZE) objects
-  pub listed : All (λ o. IsId o.module) objects
-  pub numbers : greatest (map (λ o. o.module) objects) ≤ GREATEST_ID
-  pub modules : length (layout_of carousel (map (view_placed t) objects)) ≤ GREATEST_ID
-  pub sizes : All (λ m. length m.1 ≤ MOST_TOTAL_SIZE) (layout_of carousel (map (view_placed t) objects))
 
 -- the gateway is the folder of no names
 abbrev pub kind_in : ℕ → FolderKind

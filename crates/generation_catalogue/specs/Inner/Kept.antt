@@ -1,4 +1,4 @@
--- What private functions and invariants are stated in.
+-- What is kept beside the entries follows from them.
 use Rattle.std.specs.Prelude.{◌≡◌, ◌≤◌, ℕ, List, drop, length, MatchOption}
 use Rattle.std.specs.Arc.{arc_value}
 use Rattle.cycle_planner.specs.Cycle.{Line, cycle_of}

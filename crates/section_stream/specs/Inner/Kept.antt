@@ -4,7 +4,8 @@ use Rattle.carousel_profile.specs.declared.TheConstants.{PACKET_LENGTH}
 use Rattle.section_stream.specs.Cuts.{Bytes}
 use Rattle.section_stream.specs.Rules.{Receiving, DemuxState}
 
--- the same, as it is kept beside the packet: the payload goes from a place in it to its end; from 188 on there is none
+-- a packet's counter and payload, as they are kept beside it: the payload goes from a place in it to its end; from the packet's
+-- length on there is none
 abbrev pub last_from : ℕ → ℕ → Bytes → Option (ℕ × Bytes)
 last_from place counter packet = if nat_lt place PACKET_LENGTH then Some (counter, drop place packet) else None
 

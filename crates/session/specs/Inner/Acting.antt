@@ -1,21 +1,21 @@
--- How far a session has got.
-use Rattle.std.specs.Prelude.{◌≡◌, ℕ, ◌+◌, ◌≤◌, List, [], ◌∷◌, ◌++◌, map, length, ◌<◌, slice_index_or, All, count_by}
+-- How far a session has got, by its seats.
+use Rattle.std.specs.Prelude.{◌≡◌, ℕ, ◌+◌, ◌≤◌, List, ◌∷◌, ◌++◌, map, length, ◌<◌, slice_index_or, All, count_by}
 use mathlib.Core.List.{IsPrefix}
-use Rattle.path_tree.specs.Paths.{PathNames}
-use Rattle.path_tree.specs.declared.tree.Edit.{Edit}
 use Rattle.path_resolver.specs.declared.shot.Shot.{Shot}
-use Rattle.open_history.specs.Opens.{IsSameReader, reader_view}
 use Rattle.shot_board.specs.declared.viewer.Viewer.{Viewer}
 use Rattle.shot_board.specs.Viewers.{known_of, told_of, most_of, viewer_board}
 use Rattle.logbook.specs.Pages.{Book}
 use Rattle.station.specs.declared.station.Station.{Station}
-use Rattle.session_script.specs.declared.parts.Parts.{Parts}
+use Rattle.session_script.specs.declared.script.Parts.{Parts}
 use Rattle.session_script.specs.declared.script.Stage.{Stage}
+use Rattle.session_script.specs.Scripts.{script_of_parts}
+use Rattle.session_script.specs.Ranges.{AreListed, IsInRanges}
 use Rattle.carousel_world.specs.Events.{Step}
-pub use Rattle.rehearsal.specs.Happening.{view_happening}
+pub use Rattle.rehearsal.specs.Lines.{view_happening}
 use Rattle.session.specs.Opened.{HasOpened}
-use Rattle.session.specs.Seats.{HasCommitted, edits_of}
+use Rattle.session.specs.Seats.{HasCommitted, HasFed, IsDrawLine, draw_of, edits_of}
 use Rattle.session.specs.declared.editor.EditorSeat.{EditorSeat}
+use Rattle.session.specs.declared.feeder.FeederSeat.{FeederSeat}
 use Rattle.session.specs.declared.reader.ReaderSeat.{ReaderSeat}
 use Rattle.session.specs.Lines.{commits_by, draws_in, asked_from, is_draw_before}
 use Rattle.session.specs.Inner.Plans.{opens_by, above, at_end, before_steps, below, during_steps, end_steps, steps}
@@ -26,6 +26,8 @@ use Rattle.session.specs.Inner.Plans.{opens_by, above, at_end, before_steps, bel
 pub record Setting : Type 0 where
   pub parts : Parts
   pub board : Book
+  pub ranges : IsInRanges (script_of_parts parts)
+  pub listed : AreListed (script_of_parts parts)
 
 -- its events above `start` and below it
 abbrev pub done_in : Setting → List (Stage × Step)
@@ -47,66 +49,49 @@ IsNext setting done e = (left : List Step) × (before_steps setting.parts ≡ do
 
 -- ---- seats, after some of the events above `start`
 
-abbrev pub EditorStands : {X : _} {F : _} {g : _} → Station X F g → ℕ → List Step → EditorSeat → Type 0
-EditorStands s place done seat = HasCommitted s place (commits_by seat.number done) seat.pass
+-- so it is of each, by its place
+abbrev pub EachAt : {A : Type 0} → (ℕ → A → Type 0) → List A → Type 0
+EachAt P xs = (k : ℕ) (d : _) → k < length xs → P k (slice_index_or xs k d)
 
-abbrev pub EditorsStand : {X : _} {F : _} {g : _} → Station X F g → List Step → List EditorSeat → Type 0
-EditorsStand s done seats = (place : ℕ) (d : EditorSeat) → place < length seats → EditorStands s place done (slice_index_or seats place d)
+-- The editor of this place in the script made its commits among these events, and those below `start` lie before it
+pub record EditorStands {X : _} {F : _} {g : _} (setting : Setting) (s : Station X F g) (done : List Step) (place : ℕ) (seat : EditorSeat) : Type 0 where
+  pub number : seat.number ≡ slice_index_or setting.parts.editors.items place 0
+  pub made : HasCommitted s place (commits_by seat.number done) seat.pass
+  pub commits : map edits_of seat.commits.items ≡ commits_by seat.number (during_steps setting.parts)
 
--- A reader of the setting's board. It opened what it was asked for, was told of all shots, and has room for all opens
-pub record ReaderStands (setting : Setting) (done : List Step) (shots : List Shot) (seat : ReaderSeat) : Type 0 where
+abbrev pub EditorsStand : {X : _} {F : _} {g : _} → Setting → Station X F g → List Step → List EditorSeat → Type 0
+EditorsStand setting s done seats = (length seats ≡ length setting.parts.editors.items) × EachAt (EditorStands setting s done) seats
+
+-- The feeder made the draws among these events, after each of which a shot was shown, and those below `start` lie before it
+pub record FeederStands {X : _} {F : _} {g : _} (setting : Setting) (s : Station X F g) (done : List Step) (shots : List Shot) (seat : FeederSeat) : Type 0 where
+  pub fed : HasFed s (draws_in done) seat shots
+  pub draws : map draw_of seat.draws.items ≡ draws_in (during_steps setting.parts)
+  pub in_range : All IsDrawLine seat.draws.items
+
+-- The reader of this place in the script, at the setting's board. It has room for all opens; those below `start` and those at the end lie before it
+pub record IsReaderOf (setting : Setting) (place : ℕ) (seat : ReaderSeat) : Type 0 where
+  pub number : seat.pass.reader ≡ slice_index_or setting.parts.readers.items place 0
   pub board_is : seat.pass.board ≡ setting.board
   pub most_is : seat.pass.most ≡ draws_of setting
+  pub room : seat.pass.room ≡ length (opens_by seat.pass.reader (steps (events_in setting)))
+  pub paths : seat.paths.items ≡ opens_by seat.pass.reader (during_steps setting.parts)
+  pub finales : seat.finales.items ≡ opens_by seat.pass.reader (end_steps setting.parts)
+
+-- it opened what it was asked for among these events, and was told of all shots
+pub record ReaderStands (setting : Setting) (done : List Step) (shots : List Shot) (place : ℕ) (seat : ReaderSeat) : Type 0 where
+  pub reader : IsReaderOf setting place seat
   pub few : length seat.pass.known ≤ seat.pass.most + 1
   pub opened : HasOpened (asked_from seat.pass.reader (draws_before setting) (draws_of setting) 0 (above done)) seat.pass
   pub told : IsPrefix shots seat.pass.told
-  pub room : seat.pass.room ≡ length (opens_by seat.pass.reader (steps (events_in setting)))
 
 abbrev pub ReadersStand : Setting → List Step → List Shot → List ReaderSeat → Type 0
-ReadersStand setting done shots seats = All (ReaderStands setting done shots) seats
+ReadersStand setting done shots seats = (length seats ≡ length setting.parts.readers.items) × EachAt (ReaderStands setting done shots) seats
 
--- the reader was told of all these shots, and nothing else changed
-pub record IsKnown (shots : List Shot) (old new : ReaderSeat) : Type 0 where
-  pub same : IsSameReader old.pass new.pass
-  pub known : new.pass.known ≡ old.pass.known
-  pub opens : new.pass.opens ≡ old.pass.opens
-  pub paths : new.paths ≡ old.paths
-  pub finales : new.finales ≡ old.finales
-  pub told : IsPrefix shots new.pass.told
+-- ---- what seats are made of
 
 -- the setting's viewers, who know these shots and were told of no others
 abbrev pub IsViewerOf : Setting → List Shot → Viewer Shot → Type 0
 IsViewerOf setting shots v = (viewer_board v ≡ setting.board) × (most_of v ≡ draws_of setting) × (known_of v ≡ shots) × (told_of v ≡ shots)
-
--- a reader with room for so many opens, which has made none, and is to open these paths and then those
-abbrev pub IsNewSeat : ℕ → ℕ → Viewer Shot → List PathNames → List PathNames → ReaderSeat → Type 0
-IsNewSeat reader room v paths finales seat = (seat.pass ≡ reader_view reader room v [] 0) × (seat.paths.items ≡ paths) × (seat.finales.items ≡ finales)
-
--- ---- what lies before seats
-
-pub record EditorPlan : Type 0 where
-  pub editor : ℕ
-  pub commits : List (List Edit)
-
-pub record ReaderPlan : Type 0 where
-  pub reader : ℕ
-  pub paths : List PathNames
-  pub finales : List PathNames
-
-abbrev pub editor_plan : EditorSeat → EditorPlan
-editor_plan seat = record { editor = seat.number; commits = map edits_of seat.commits.items }
-
-abbrev pub reader_plan : ReaderSeat → ReaderPlan
-reader_plan seat = record { reader = seat.pass.reader; paths = seat.paths.items; finales = seat.finales.items }
-
--- what lies before the actor of a number
-abbrev pub planned_for : (ℕ → List (List Edit)) → ℕ → EditorPlan
-planned_for commits n = record { editor = n; commits = commits n }
-
-abbrev pub asked_for : (paths finales : ℕ → List PathNames) → ℕ → ReaderPlan
-asked_for paths finales n = record { reader = n; paths = paths n; finales = finales n }
-
--- ---- the numbers of actors
 
 -- no two of the numbers are the same
 abbrev pub AreApart : List ℕ → Type 0

@@ -1,15 +1,14 @@
 -- What each actor of a script's session has to do, split off before anybody runs.
 use Rattle.std.specs.Prelude.{◌≡◌, ℕ, List, [], ◌∷◌, ◌++◌, map, Bool, true, false, is_some, All, Option, Some, None, ◌==◌, if◌then◌else◌}
-use Rattle.session_script.specs.declared.parts.TaskLine.{TaskLine}
-use Rattle.session_script.specs.declared.parts.Finale.{Finale}
-use Rattle.session_script.specs.declared.parts.Parts.{Parts}
+use Rattle.session_script.specs.declared.script.TaskLine.{TaskLine}
+use Rattle.session_script.specs.declared.script.Finale.{Finale}
+use Rattle.session_script.specs.declared.script.Parts.{Parts}
 use Rattle.session_script.specs.declared.script.Stage.{Stage}
 use Rattle.session_script.specs.declared.script.Stage.TheVariants.{Before, During, After}
-use Rattle.session_script.specs.Parts.{act_of}
+use Rattle.session_script.specs.Scripts.{act_of}
 use Rattle.carousel_world.specs.Events.{Step, Open, Commit, Draw}
 use Rattle.carousel_world.specs.World.{InRange}
-use Rattle.rehearsal.specs.Lines.{Pending, none_pending, pending_after, events_of_line, settling_step}
-use Rattle.rehearsal.specs.Happening.{view_happening}
+use Rattle.rehearsal.specs.Lines.{Pending, none_pending, pending_after, events_of_line, settling_step, view_happening}
 use Rattle.session.specs.declared.plan.Plan.{Plan}
 use Rattle.session.specs.declared.plan.Work.{Work}
 use Rattle.session.specs.Chains.{DrawFields}
@@ -20,7 +19,7 @@ use Rattle.std.specs.Ordering.{nat_cmp}
 use Rattle.std.specs.BTreeMap.{get}
 use Rattle.std.specs.declared.vec.Vec.{Vec}
 use Rattle.std.specs.declared.alloc.Global.{Global}
-use Rattle.session.specs.declared.by_actor.ByActor.{ByActor}
+use Rattle.session.specs.declared.plan.ByActor.{ByActor}
 use Rattle.path_tree.specs.Paths.{PathNames}
 
 -- ---- a list for each actor

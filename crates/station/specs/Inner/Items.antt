@@ -3,7 +3,7 @@ use Rattle.std.specs.Prelude.{ℕ, Bool, true, false, List, [], ◌∷◌}
 use Rattle.station.specs.declared.kept.KeptItem.{KeptItem}
 use Rattle.station.specs.declared.kept.KeptItem.TheVariants.{Setting}
 
--- and its weights
+-- the weights of the setting that the items begin with
 abbrev pub weights_in : List KeptItem → List ℕ
 weights_in (Setting carousel weights ∷ items) = weights
 weights_in items = []

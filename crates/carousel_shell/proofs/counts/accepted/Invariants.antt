@@ -1,5 +1,5 @@
 use Rattle.std.proofs.Common.{◌≡◌, map, take}
-use Rattle.history_merge.specs.Merges.{known_view}
+use Rattle.history_merge.specs.Merging.{known_view}
 use Rattle.session.specs.Sessions.{accepted_in}
 use Rattle.carousel_shell.proofs.counts.accepted.Given as goal
 

@@ -2,7 +2,7 @@ use Rattle.std.proofs.Common.{◌≡◌, ◌∙◌, List, ℕ, map, length, ap, 
 use Rattle.std.specs.Prelude.{IfOk}
 use Rattle.std.specs.List.{sum}
 use Rattle.std.specs.String.{string_bytes}
-use Rattle.history_merge.specs.Merges.{known_view}
+use Rattle.history_merge.specs.Merging.{known_view}
 use Rattle.carousel_shell.proofs.Tallies.{same_line}
 use Rattle.carousel_shell.proofs.counts.big_line.Goals as goal
 

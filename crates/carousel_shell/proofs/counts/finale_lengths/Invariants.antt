@@ -1,5 +1,5 @@
 use Rattle.std.proofs.Common.{◌≡◌, map, take, length, filter}
-use Rattle.history_merge.specs.Merges.{known_view}
+use Rattle.history_merge.specs.Merging.{known_view}
 use Rattle.carousel_shell.specs.Big.{is_first, finale_lengths}
 use Rattle.carousel_shell.proofs.counts.finale_lengths.Given as goal
 

@@ -1,6 +1,6 @@
 use Rattle.std.proofs.Common.{ap, refl, Err, map}
-use Rattle.session_script.specs.Parts.{script_of_parts}
-use Rattle.history_merge.specs.Merges.{known_view}
+use Rattle.session_script.specs.Scripts.{script_of_parts}
+use Rattle.history_merge.specs.Merging.{known_view}
 use Rattle.shell_streams.proofs.CallerLemmas.{puts_as}
 use Rattle.carousel_shell.proofs.Playing.{plays_stopped, plays_misread, plays_nothing, plays_all, plays_part, told_report}
 use Rattle.carousel_shell.proofs.sessions.play_session.Goals as goal

@@ -1,6 +1,5 @@
-use Rattle.std.proofs.Common.{◌≡◌, ℕ, ◌≤◌, ◌%◌, ◌∙◌, ap, sym, subst, length, map, refl}
-use Rattle.carousel_profile.specs.declared.TheConstants.{BLOCK_SIZE}
-use Rattle.generation.proofs.Words.{IfOk, All, All-filter, Bytes, spelling, dii_spelling, MOST_TOTAL_SIZE, is_in_group, group_in, control_section, dii_lines, view_listed, dii_transaction}
+use Rattle.std.proofs.Common.{ℕ, ◌≤◌, ◌∙◌, ap, sym, subst, length, map, refl}
+use Rattle.generation.proofs.Words.{All, All-filter, Bytes, MOST_TOTAL_SIZE, is_in_group, group_in, dii_lines, view_listed}
 use Rattle.generation.proofs.Writing.{dii_is, dii_fits, plain_lines}
 use Rattle.generation.proofs.control.dii_section.Goals as goal
 
@@ -24,10 +23,9 @@ control-requires c =
 
 pub returns-in-Ok-clause-spells : goal.returns-in-Ok-clause-spells
 returns-in-Ok-clause-spells c =
-    let listed = group_in (map view_listed c.args.modules.now) c.args.group in
     let lines = c.in_ok-module_lines.ensures ∙ ap (dii_lines c.args.counts.now) c.group_modules.ensures.group in
-    subst (λ t. IfOk c.control.result (λ v. v.items ≡ spelling (control_section (t % 65536) (dii_spelling (record { download = c.args.carousel; block_size = BLOCK_SIZE; transaction = dii_transaction c.args.number c.args.group; modules = dii_lines c.args.counts.now listed })))))
-    c.dii-transaction.ensures.transaction
-    (subst (λ p. IfOk c.control.result (λ v. v.items ≡ spelling (control_section (c.dii-transaction.result.0 % 65536) p)))
-    (dii_is c.args.carousel c.args.number c.args.group c.dii-transaction.result.0 c.args.counts.now listed c.in_ok-module_lines.field-0.items c.in-Ok.payload.items c.dii-transaction.ensures.transaction lines c.in-Ok.ensures.spells)
-    c.control.ensures.spells)
+    rw (
+      dii_is c.args.carousel c.args.number c.args.group c.dii-transaction.result.0 c.args.counts.now (group_in (map view_listed c.args.modules.now) c.args.group) c.in_ok-module_lines.field-0.items c.in-Ok.payload.items
+          c.dii-transaction.ensures.transaction lines c.in-Ok.ensures.spells,
+      c.dii-transaction.ensures.transaction,
+    ) at c.control.ensures.spells

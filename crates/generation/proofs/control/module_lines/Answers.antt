@@ -1,6 +1,5 @@
 use Rattle.std.proofs.Common.{◌≤◌, ap, length, get_or, arith}
-use Rattle.generation.proofs.Words.{view_listed}
-use Rattle.generation.proofs.Numbering.{all_unmap}
+use Rattle.generation.proofs.Words.{view_listed, all_unmap}
 use Rattle.generation.proofs.control.module_lines.Goals as goal
 
 pub overflow_cast-bytes : goal.overflow_cast-bytes

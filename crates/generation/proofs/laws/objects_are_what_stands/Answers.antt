@@ -1,4 +1,4 @@
-use Rattle.generation.proofs.Standing.{objects_stand}
+use Rattle.generation.proofs.Numbering.{objects_stand}
 use Rattle.generation.proofs.laws.objects_are_what_stands.Goals as goal
 
 pub returns : goal.returns

@@ -11,8 +11,7 @@ loop-id-preserved c = λ before marked.
     let f = count_after before (map view_listed c.args.modules.now) c.args.counts.now in
     let is : c.count_in.result + c.changes.result ≡ f c.loop-id.id = omega (arith, c.count_in.ensures, c.changes.ensures.changes before marked) in
     c.in_ok-push.ensures.items
-    ∙ (ap (λ l. l ++ (c.count_in.result + c.changes.result) ∷ []) (c.loop-id.invariant before marked)
-    ∙ (ap (λ n. map f (range_with_len 0 c.loop-id.id) ++ n ∷ []) is ∙ sym (map-range_with_len_more f 0 c.loop-id.id c.loop-id.id (omega arith))))
+    ∙ (λ j. c.loop-id.invariant before marked j ++ is j ∷ []) ∙ sym (map-range_with_len_more f 0 c.loop-id.id c.loop-id.id (omega arith))
 
 pub returns : goal.returns
 returns c = λ before marked. c.loop-id.invariant before marked ∙ ap (λ n. map (count_after before (map view_listed c.args.modules.now) c.args.counts.now) (range_with_len 0 n)) (omega (arith, c.ids_counted-end.ensures))

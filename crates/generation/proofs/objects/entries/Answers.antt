@@ -1,6 +1,6 @@
 use Rattle.std.proofs.Common.{◌++◌, ◌∷◌, [], ◌∙◌, map, take, get_or, sym, ap, arith}
-use Rattle.generation.proofs.Words.{map-append, take_all, take_more, All-nil, All-push, IsEntry, IsId, IsSpotIn}
-use Rattle.generation.proofs.Members.{binding_of, bindings_are, all_lying, all_named, folder_group, no_object}
+use Rattle.generation.proofs.Words.{map-append, take_all, take_more, All-nil, All-push, IsEntry, IsId, IsSpotIn, ByFolder}
+use Rattle.generation.proofs.Members.{binding_of, bindings_are, all_in_group, all_named, no_object}
 use Rattle.generation.proofs.objects.entries.Goals as goal
 
 pub loop-child-init : goal.loop-child-init
@@ -8,23 +8,19 @@ loop-child-init c = record { valid = rw c.new-entries.ensures.items (All-nil IsE
 
 pub written-requires-clause-object : goal.written-requires-clause-object
 written-requires-clause-object c =
-    let is = c.members_of-members.ensures ∙ c.requires.children c.args.folder in
-    all_lying folder_group (λ o. IsSpotIn c.args.tree.now o.spot) c.args.folder c.args.objects.now c.members_of-members.result.now is c.requires.objects c.loop-child.child-index _ (omega arith)
+    let o = c.args.objects.now in
+    all_in_group (λ x. IsSpotIn o.tree x.spot) ByFolder c.args.folder o.all.items c.in_folder-members.result.now c.in_folder-members.ensures c.requires.spots c.loop-child.child-index _ (omega arith)
 
 pub written-requires-clause-listed : goal.written-requires-clause-listed
-written-requires-clause-listed c =
-    let is = c.members_of-members.ensures ∙ c.requires.children c.args.folder in
-    all_lying folder_group (λ o. IsId o.«module») c.args.folder c.args.objects.now c.members_of-members.result.now is c.requires.listed c.loop-child.child-index _ (omega arith)
+written-requires-clause-listed c = all_in_group (λ x. IsId x.«module») ByFolder c.args.folder c.args.objects.now.all.items c.in_folder-members.result.now c.in_folder-members.ensures c.requires.ids c.loop-child.child-index _ (omega arith)
 
 pub written-requires-clause-named : goal.written-requires-clause-named
-written-requires-clause-named c =
-    let is = c.members_of-members.ensures ∙ c.requires.children c.args.folder in
-    all_named c.args.tree.now c.args.folder c.args.objects.now c.members_of-members.result.now is c.requires.objects c.loop-child.child-index _ (omega arith)
+written-requires-clause-named c = all_named c.args.objects.now.tree c.args.folder c.args.objects.now.all.items c.in_folder-members.result.now c.in_folder-members.ensures c.requires.spots c.loop-child.child-index _ (omega arith)
 
 pub loop-child-preserved : goal.loop-child-preserved
 loop-child-preserved c =
-    let binding = binding_of c.args.carousel c.args.tree.now in
-    let ms = c.members_of-members.result.now in
+    let binding = binding_of c.args.carousel c.args.objects.now.tree in
+    let ms = c.in_folder-members.result.now in
     let i = c.loop-child.child-index in
     record {
       valid = rw c.in_ok-push.ensures.items (All-push IsEntry c.loop-child.entries.items c.in_ok-written.field-0 c.loop-child.invariant.valid c.in_ok-written.ensures.valid);
@@ -35,6 +31,5 @@ loop-child-preserved c =
 
 pub returns-clause-entries : goal.returns-clause-entries
 returns-clause-entries c =
-    let is = c.members_of-members.ensures ∙ c.requires.children c.args.folder in
-    c.loop-child.invariant.so_far ∙ (ap (map (binding_of c.args.carousel c.args.tree.now)) (take_all c.loop-child.child-index c.members_of-members.result.now (omega arith) ∙ is)
-    ∙ bindings_are c.args.carousel c.args.folder c.args.tree.now c.args.objects.now)
+    let o = c.args.objects.now in
+    c.loop-child.invariant.so_far ∙ (ap (map (binding_of c.args.carousel o.tree)) (take_all c.loop-child.child-index c.in_folder-members.result.now (omega arith) ∙ c.in_folder-members.ensures) ∙ bindings_are c.args.carousel c.args.folder o.tree o.all.items)

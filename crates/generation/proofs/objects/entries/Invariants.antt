@@ -6,5 +6,5 @@ use Rattle.generation.proofs.objects.entries.Given as goal
 abbrev pub invariant-loop-child : goal.invariant-loop-child
 invariant-loop-child l = record {
   valid : All IsEntry l.entries.items;
-  so_far : l.entries.items ≡ map (binding_of l.carousel l.tree) (take l.child-index l.members);
+  so_far : l.entries.items ≡ map (binding_of l.carousel l.objects.tree) (take l.child-index l.members);
 }

@@ -1,6 +1,7 @@
-use Rattle.std.proofs.Common.{arith}
+use Rattle.std.proofs.Common.{arith, []}
 use Rattle.generation.proofs.Words.{path_at}
-use Rattle.generation.proofs.Spotting.{path_at_within, path_valid, last_lent, valid_lent}
+use Rattle.generation.proofs.Spotting.{path_at_within, last_lent, valid_lent}
+use Rattle.path_tree.specs.declared.entry.Entry.TheVariants as entries
 use Rattle.generation.proofs.spots.name_of.Goals as goal
 
 pub path_of-requires : goal.path_of-requires
@@ -12,4 +13,6 @@ returns-clause-name c =
 
 pub returns-clause-range : goal.returns-clause-range
 returns-clause-range c =
-    valid_lent c.path_of.result.now (path_at c.args.tree.now c.args.spot.entry) _ c.name.result.now c.path_of.ensures (path_valid c.args.tree.now c.args.spot.entry c.requires.tree.paths) c.name.ensures
+    let within = path_at_within c.args.tree.now c.args.spot.entry (omega (arith, c.requires.spot.names, c.requires.named)) in
+    let names = (c.requires.tree.paths c.args.spot.entry ([], entries.Folder) within).0.names in
+    valid_lent c.path_of.result.now (path_at c.args.tree.now c.args.spot.entry) _ c.name.result.now c.path_of.ensures names c.name.ensures

@@ -1,5 +1,5 @@
-use Rattle.std.proofs.Common.{◌++◌, take, get_or, sym, ◌∙◌, ap, arith}
-use Rattle.generation.proofs.Words.{take_all, object_bytes, bytes_of_all, view_placed}
+use Rattle.std.proofs.Common.{◌++◌, sym, ◌∙◌, ap, arith}
+use Rattle.generation.proofs.Words.{take_all, bytes_of_all}
 use Rattle.generation.proofs.Members.{one_more, no_object}
 use Rattle.generation.proofs.unchanged.are_same_files.Goals as goal
 
@@ -10,9 +10,8 @@ loop-place-preserved c =
     let i = c.loop-place.place in
     λ k olds news.
     one_more k olds t c.args.before.now i no_object (omega arith)
-    ∙ (ap (λ l. l ++ object_bytes k olds (view_placed t (get_or c.args.before.now i no_object))) (c.loop-place.invariant k olds news)
-    ∙ (ap (λ l. bytes_of_all k news u (take i c.args.after.now) ++ l) (c.is_same_file.ensures c.if-not-is_same_file.false k olds news)
-    ∙ sym (one_more k news u c.args.after.now i no_object (omega arith))))
+    ∙ (λ j. c.loop-place.invariant k olds news j ++ c.is_same_file.ensures c.if-not-is_same_file.false k olds news j)
+    ∙ sym (one_more k news u c.args.after.now i no_object (omega arith))
 
 pub returns : goal.returns
 returns c = λ e k olds news.

@@ -3,4 +3,4 @@ use Rattle.history_merge.proofs.Telling.{IsMerging}
 use Rattle.history_merge.proofs.history.merge.Given as goal
 
 abbrev pub invariant-loop-entry : goal.invariant-loop-entry
-invariant-loop-entry l = IsMerging l.entries (map fates_view l.fates) l.editors l.passes l.entry-index l.draws (map view_waiting l.waiting.items) (map known_view l.told.items)
+invariant-loop-entry l = IsMerging l.entries (map fates_view l.fates) l.editors l.passes l.entry-index l.draws (map view_waiting l.waiting) (map known_view l.told.items)

@@ -1,5 +1,5 @@
 use Rattle.session.proofs.Words.{◌∷◌, ◌++◌, [], List, map, ◌∙◌, subst, arith, length-append, shown_by, DrawFields, HasFed, draw_of}
-use Rattle.session.proofs.Turning.{one_more}
+use Rattle.session.proofs.Lists.{one_more}
 use Rattle.session.proofs.feeder.feed.Goals as goal
 
 pub loop-line-preserved : goal.loop-line-preserved

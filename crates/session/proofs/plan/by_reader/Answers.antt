@@ -1,13 +1,12 @@
-use Rattle.session.proofs.Words.{[], ◌∷◌, ◌==◌, List, map, rules, sym, ap, ◌∙◌, map-append, Finale, opens_by, lists_of, finale_step, items_came}
-use Rattle.session.proofs.Planning.{one_path}
+use Rattle.session.proofs.Words.{PathNames, refl, [], ◌∷◌, List, map, rules, sym, ap, ◌∙◌, map-append, Finale, opens_by, lists_of, finale_step, items_came}
+use Rattle.session.proofs.Planning.{one_given}
 use Rattle.session.proofs.Staged.{opens_more}
-use Rattle.session.proofs.Taking.{either_side}
 use Rattle.session.proofs.plan.by_reader.Goals as goal
 
 pub loop-last-preserved : goal.loop-last-preserved
 loop-last-preserved c = λ n.
     let y = c.loop-last.yielded in let x = c.in-Some.last in
-    c.in_ok-push.ensures n ∙ one_path x.path (n == x.reader) (x.reader == n) (either_side n x.reader) (lists_of c.loop-last.lists n) (opens_by n (map finale_step y)) (c.loop-last.invariant n)
+    c.in_ok-push.ensures n ∙ one_given (λ (l : List PathNames). l) x.path x.path (λ l. refl) n x.reader (lists_of c.loop-last.lists n) (opens_by n (map finale_step y)) (c.loop-last.invariant n)
     ∙ sym (ap (opens_by n) (map-append finale_step y (x ∷ [])) ∙ opens_more n (map finale_step y) (finale_step x ∷ []))
 
 pub returns : goal.returns

@@ -1,6 +1,6 @@
 use Rattle.session.proofs.Words.{rules, ◌≡◌, ◌+◌, ◌∷◌, [], ◌++◌, List, map, length, inl, ap, ◌∙◌, subst, arith, length-append, PathNames, Asked, HasOpened, asked_at, items_came}
 use Rattle.session.proofs.Opening.{begins_later}
-use Rattle.session.proofs.Turning.{one_more}
+use Rattle.session.proofs.Lists.{one_more}
 use Rattle.session.proofs.reader.read.Goals as goal
 
 pub loop-path-preserved : goal.loop-path-preserved

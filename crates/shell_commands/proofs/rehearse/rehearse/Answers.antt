@@ -1,5 +1,5 @@
 use Rattle.std.proofs.Common.{ap, refl, Err}
-use Rattle.session_script.specs.Parts.{script_of_parts}
+use Rattle.session_script.specs.Scripts.{script_of_parts}
 use Rattle.shell_commands.proofs.Rehearsing.{rehearses_stopped, rehearses_misread, rehearses_all, rehearses_part}
 use Rattle.shell_commands.proofs.rehearse.rehearse.Goals as goal
 

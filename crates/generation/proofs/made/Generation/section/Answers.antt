@@ -1,11 +1,11 @@
-use Rattle.generation.proofs.Words.{view_generation, view_listed, Dsi, Dii, Block}
+use Rattle.generation.proofs.Words.{view_listed, section_of}
 use Rattle.generation.proofs.Grouping.{dii_listed, rising_of}
-use Rattle.std.proofs.Common.{map}
-use Rattle.generation.proofs.Writing.{section_arm, dii_arm, listed_arm}
+use Rattle.std.proofs.Common.{map, sym}
+use Rattle.generation.proofs.Writing.{dii_arm}
 use Rattle.generation.proofs.made.Generation.section.Goals as goal
 
 pub returns-in-Dsi-clause-exact : goal.returns-in-Dsi-clause-exact
-returns-in-Dsi-clause-exact c = section_arm c.dsi_section.result (view_generation c.self.inside) c.args.self.now c.args.item Dsi c.self.view_is c.in-Dsi.is c.dsi_section.ensures.spells
+returns-in-Dsi-clause-exact c = rw (← c.self.view_is, c.in-Dsi.is) c.dsi_section.ensures.spells
 
 pub dii_section-requires-clause-group : goal.dii_section-requires-clause-group
 dii_section-requires-clause-group c = let is = dii_listed c.args.self.now c.in-Dii.group (rw c.in-Dii.is at c.requires) in (is.above, is.within)
@@ -17,9 +17,8 @@ pub block_of_module-requires-clause-rising : goal.block_of_module-requires-claus
 block_of_module-requires-clause-rising c = rw c.deref-in-Block.ensures.value (rising_of (map view_listed c.self.inside.modules.items) (rw c.self.invariant.lines at c.self.invariant.cycle))
 
 pub returns-in-Dii-clause-exact : goal.returns-in-Dii-clause-exact
-returns-in-Dii-clause-exact c = section_arm c.dii_section.result (view_generation c.self.inside) c.args.self.now c.args.item (Dii c.in-Dii.group) c.self.view_is c.in-Dii.is
+returns-in-Dii-clause-exact c = rw (← c.self.view_is, c.in-Dii.is)
     (dii_arm c.dii_section.result c.self.inside.carousel c.self.inside.number c.in-Dii.group c.self.inside.counts.items c.deref-in-Dii.result.now c.self.inside.modules.items c.deref.result.now c.deref-in-Dii.ensures.value c.deref.ensures.value c.dii_section.ensures.spells)
 
 pub returns-in-Block-clause-exact : goal.returns-in-Block-clause-exact
-returns-in-Block-clause-exact c = section_arm c.block_of_module.result (view_generation c.self.inside) c.args.self.now c.args.item (Block c.in-Block.id c.in-Block.block) c.self.view_is c.in-Block.is
-    (listed_arm c.block_of_module.result c.self.inside.carousel c.in-Block.id c.in-Block.block c.self.inside.counts.items c.deref-in-Block-2.result.now c.self.inside.modules.items c.deref-in-Block.result.now c.deref-in-Block-2.ensures.value c.deref-in-Block.ensures.value c.block_of_module.ensures.spells)
+returns-in-Block-clause-exact c = rw (← c.self.view_is, c.in-Block.is) (rw (c.deref-in-Block.ensures.value, c.deref-in-Block-2.ensures.value) at c.block_of_module.ensures.spells)

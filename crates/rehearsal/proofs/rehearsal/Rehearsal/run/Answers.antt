@@ -1,32 +1,34 @@
-use Rattle.rehearsal.proofs.Words.{[], ◌∷◌, ◌∙◌, Option, ap, sym, subst, IfSome, err_from_is_err_and, on_ok_weaker, act_of, Step, pending_after, InRange, happened, view_happening}
+use Rattle.rehearsal.proofs.Words.{◌≡◌, ◌≢◌, ◌∙◌, ◌∷◌, [], ◌++◌, Option, Some, None, refl, ap, sym, subst, IfSome, err_from_is_err_and, puts_as, Step, view, InRange, happened, view_happening, world_after}
 use Rattle.rehearsal.specs.declared.interpreter.Happening.{Happening}
-use Rattle.rehearsal.proofs.Running.{runs_none, runs_empty, runs_as, stands_more, stands_still}
+use Rattle.rehearsal.proofs.Running.{runs_none, runs_quietly, runs_event, world_more, line_as}
 use Rattle.rehearsal.proofs.rehearsal.Rehearsal.run.Goals as goal
 
-pub returns-in_err-what-clause-runs : goal.returns-in_err-what-clause-runs
-returns-in_err-what-clause-runs g c = let f = err_from_is_err_and c.from_residual.result c.from_residual.ensures.1 in
-    λ ws before p st. rw (f.1, f.2) (runs_none _ before _ st.headline)
+nothing : (what : Option Happening) → ((h : Happening) → what ≢ Some h) → happened what ≡ []
+nothing None other = refl
+nothing (Some h) other = absurd (other h refl)
 
-pub happen-requires : goal.happen-requires
-happen-requires g c = subst InRange (sym c.into_event.ensures)
+pub returns-in_err-what : goal.returns-in_err-what
+returns-in_err-what g c = let p = err_from_is_err_and c.from_residual.result c.from_residual.ensures.1 in λ number stage ws script left first h. rw (p.1, p.2) (runs_none h)
+
+pub returns-in_default : goal.returns-in_default
+returns-in_default g c = λ number stage ws script left first h. runs_quietly h (sym (nothing _ c.in_default.not-Some) ∙ c.in_ok-what.ensures.happens h.pending h.stands.waits)
+    (record { world = h.stands.world; headline = h.stands.headline; waits = c.in_ok-what.ensures.waits h.pending h.stands.waits })
+
+pub step-requires : goal.step-requires
+step-requires g c = subst InRange (sym c.into_event-event.ensures)
     (subst (λ (what : Option Happening). IfSome what (λ h. InRange (view_happening h))) c.in-Some.is c.in_ok-what.ensures.range)
 
-pub returns-in-Some-clause-runs : goal.returns-in-Some-clause-runs
-returns-in-Some-clause-runs g c = λ ws before p st.
-    let is = ap (λ (e : Step). e ∷ []) c.into_event.ensures ∙ ap happened (sym c.in-Some.is) ∙ c.in_ok-what.ensures.happens p st.pending in
-    runs_as before is (c.happen.ensures.runs ws before (pending_after p (act_of c.args.task)) (record { world = st.world; headline = st.headline; pending = c.in_ok-what.ensures.waits p st.pending }))
+pub returns-in_err-subject : goal.returns-in_err-subject
+returns-in_err-subject g c = let p = err_from_is_err_and c.from_residual-in_err-subject.result c.from_residual-in_err-subject.ensures.1 in λ number stage ws script left first h. rw (p.1, p.2) (runs_none h)
 
-pub returns-in-Some-clause-stands : goal.returns-in-Some-clause-stands
-returns-in-Some-clause-stands g c = on_ok_weaker c.happen.result (λ f ws before p st.
-    let is = ap (λ (e : Step). e ∷ []) c.into_event.ensures ∙ ap happened (sym c.in-Some.is) ∙ c.in_ok-what.ensures.happens p st.pending in
-    stands_more before is (f ws before (pending_after p (act_of c.args.task)) (record { world = st.world; headline = st.headline; pending = c.in_ok-what.ensures.waits p st.pending })))
-    c.happen.ensures.stands
+pub returns-in_err-reply : goal.returns-in_err-reply
+returns-in_err-reply g c = let p = err_from_is_err_and c.from_residual-in_err-reply.result c.from_residual-in_err-reply.ensures.1 in λ number stage ws script left first h. rw (p.1, p.2) (runs_none h)
 
-pub returns-in-None-clause-runs : goal.returns-in-None-clause-runs
-returns-in-None-clause-runs g c = λ ws before p st.
-    runs_as before (ap happened (sym c.in-None.is) ∙ c.in_ok-what.ensures.happens p st.pending) (runs_empty _ _ before st.headline)
-
-pub returns-in-None-clause-stands : goal.returns-in-None-clause-stands
-returns-in-None-clause-stands g c = λ ws before p st.
-    stands_more before (ap happened (sym c.in-None.is) ∙ c.in_ok-what.ensures.happens p st.pending)
-    (stands_still before (record { world = st.world; headline = st.headline; pending = c.in_ok-what.ensures.waits p st.pending }))
+pub returns : goal.returns
+returns g c = λ number stage ws script left first h.
+    let e : Step = view c.into_event-event.result in let w = world_after 1 ws h.happened in
+    let one = ap (λ (e : Step). e ∷ []) c.into_event-event.ensures ∙ ap happened (sym c.in-Some.is) ∙ c.in_ok-what.ensures.happens h.pending h.stands.waits in
+    let world = world_more _ ws h.happened e (c.in_ok-reply.ensures.stands w h.stands.world) in
+    runs_event c.put_line.result h e one
+    (record { world = world; headline = c.keeps_the_headline.ensures 1 ws (h.happened ++ e ∷ []) world; waits = c.in_ok-what.ensures.waits h.pending h.stands.waits })
+    (puts_as (line_as e _ _ _ _ c.in_ok-subject.ensures.words c.in_ok-subject.ensures.path (c.in_ok-reply.ensures.reply w h.stands.world)) c.put_line.ensures)

@@ -1,10 +1,10 @@
 use Rattle.rehearsal.proofs.Words.{ap, length, rules, err_from_is_err_and, act_of, task_line, IsInRange, line_at, none_left, at_place, item_comes, items_came}
-use Rattle.session_script.specs.declared.parts.TaskLine.{TaskLine}
-use Rattle.rehearsal.proofs.Running.{has_run_as, runs_line, rehearses_part}
+use Rattle.session_script.specs.declared.script.TaskLine.{TaskLine}
+use Rattle.rehearsal.proofs.Running.{has_run_as}
 use Rattle.rehearsal.proofs.rehearsal.Rehearsal.run_all.Goals as goal
 
 pub loop-line-init : goal.loop-line-init
-loop-line-init g c = λ ws script stage left first h. h
+loop-line-init g c = λ stage ws script left first h. h
 
 pub run-requires : goal.run-requires
 run-requires g c = let turn = item_comes c.into_iter-line-iterator.result c.args.tasks.items (search rules) (search rules) c.loop-line.yielded c.loop-line.line-iterator c.loop-line.yielded_by c.next.new.self c.in-Some.is c.next.ensures.steps in
@@ -13,17 +13,16 @@ run-requires g c = let turn = item_comes c.into_iter-line-iterator.result c.args
 pub loop-line-preserved : goal.loop-line-preserved
 loop-line-preserved g c =
     let turn = item_comes c.into_iter-line-iterator.result c.args.tasks.items (search rules) (search rules) c.loop-line.yielded c.loop-line.line-iterator c.loop-line.yielded_by c.next.new.self c.in-Some.is c.next.ensures.steps in
-    λ ws script stage left first all.
-    let h = has_run_as (line_at (task_line stage) c.args.tasks.items c.loop-line.yielded left c.in-Some.line turn.0 turn.1) (c.loop-line.invariant ws script stage left first all) in
-    runs_line (task_line stage c.in-Some.line) _ h (c.in_ok-run.ensures.runs ws h.happened h.pending h.stands) (c.in_ok-run.ensures.stands ws h.happened h.pending h.stands)
+    λ stage ws script left first h. c.in_ok-run.ensures c.in-Some.line.number stage ws script _ first
+    (has_run_as (line_at (task_line stage) c.args.tasks.items c.loop-line.yielded left c.in-Some.line turn.0 turn.1) (c.loop-line.invariant stage ws script left first h))
 
 pub returns-in_err-run : goal.returns-in_err-run
 returns-in_err-run g c =
     let turn = item_comes c.into_iter-line-iterator.result c.args.tasks.items (search rules) (search rules) c.loop-line.yielded c.loop-line.line-iterator c.loop-line.yielded_by c.next.new.self c.in-Some.is c.next.ensures.steps in
-    let p = err_from_is_err_and c.from_residual.result c.from_residual.ensures.1 in λ ws script stage left first all.
-    let h = has_run_as (line_at (task_line stage) c.args.tasks.items c.loop-line.yielded left c.in-Some.line turn.0 turn.1) (c.loop-line.invariant ws script stage left first all) in
-    rw (p.1, p.2) (rehearses_part script (task_line stage c.in-Some.line) _ h (c.in_err-run.ensures.runs ws h.happened h.pending h.stands))
+    let p = err_from_is_err_and c.from_residual.result c.from_residual.ensures.1 in
+    λ stage ws script left first h. rw (p.1, p.2) (c.in_err-run.ensures c.in-Some.line.number stage ws script _ first
+    (has_run_as (line_at (task_line stage) c.args.tasks.items c.loop-line.yielded left c.in-Some.line turn.0 turn.1) (c.loop-line.invariant stage ws script left first h)))
 
 pub returns : goal.returns
 returns g c = let end = items_came c.into_iter-line-iterator.result c.args.tasks.items (search rules) (search rules) c.loop-line.yielded c.loop-line.line-iterator c.loop-line.yielded_by c.next.new.self c.in-None.is c.next.ensures.steps in
-    λ ws script stage left first all. has_run_as (none_left (task_line stage) c.args.tasks.items c.loop-line.yielded left (ap length end)) (c.loop-line.invariant ws script stage left first all)
+    λ stage ws script left first h. has_run_as (none_left (task_line stage) c.args.tasks.items c.loop-line.yielded left (ap length end)) (c.loop-line.invariant stage ws script left first h)

@@ -1,17 +1,16 @@
-use Rattle.rehearsal.proofs.Words.{[], ◌∷◌, ◌++◌, append_assoc, err_from_is_err_and, on_ok_weaker, settling_step}
-use Rattle.rehearsal.proofs.Running.{runs_then, runs_stop, stands_as}
+use Rattle.rehearsal.proofs.Words.{◌∷◌, ◌++◌, ap, err_from_is_err_and, settle_lines, During}
+use Rattle.rehearsal.proofs.Running.{has_run_as, runs_settling, drawing}
 use Rattle.rehearsal.proofs.rehearsal.Rehearsal.settle.Goals as goal
 
-pub returns-in_err-draw_to_settle-clause-runs : goal.returns-in_err-draw_to_settle-clause-runs
-returns-in_err-draw_to_settle-clause-runs g c = let p = err_from_is_err_and c.from_residual.result c.from_residual.ensures.1 in
-    λ ws before pending st. rw (p.1, p.2) (runs_stop before (settling_step ∷ []) (settling_step ∷ []) (c.in_err-draw_to_settle.ensures.runs ws before pending st))
+pub returns-in_err-run-in-Some : goal.returns-in_err-run-in-Some
+returns-in_err-run-in-Some g c = let p = err_from_is_err_and c.from_residual.result c.from_residual.ensures.1 in λ ws script left first h.
+    rw (p.1, p.2) (c.in_err-run-in-Some.ensures 0 During ws script (drawing c.new-last.result.items ∷ left) first
+    (runs_settling _ c.new-first.ensures.items c.new-last.ensures.items (has_run_as (ap (λ line. settle_lines line ++ left) c.in-Some.is) h)))
 
-pub returns-clause-runs : goal.returns-clause-runs
-returns-clause-runs g c = λ ws before p st.
-    runs_then before (settling_step ∷ []) (settling_step ∷ []) (c.in_ok-draw_to_settle.ensures.runs ws before p st)
-    (c.draw_to_settle-2.ensures.runs ws (before ++ settling_step ∷ []) p (c.in_ok-draw_to_settle.ensures.stands ws before p st))
+pub returns-in_ok-run-in-Some : goal.returns-in_ok-run-in-Some
+returns-in_ok-run-in-Some g c = λ ws script left first h. c.run-in-Some.ensures 0 During ws script left first
+    (c.in_ok-run-in-Some.ensures 0 During ws script (drawing c.new-last.result.items ∷ left) first
+    (runs_settling _ c.new-first.ensures.items c.new-last.ensures.items (has_run_as (ap (λ line. settle_lines line ++ left) c.in-Some.is) h)))
 
-pub returns-clause-stands : goal.returns-clause-stands
-returns-clause-stands g c = on_ok_weaker c.draw_to_settle-2.result
-    (λ f ws before p st. stands_as (append_assoc before (settling_step ∷ []) (settling_step ∷ [])) (f ws (before ++ settling_step ∷ []) p (c.in_ok-draw_to_settle.ensures.stands ws before p st)))
-    c.draw_to_settle-2.ensures.stands
+pub returns-in-None : goal.returns-in-None
+returns-in-None g c = λ ws script left first h. has_run_as (ap (λ line. settle_lines line ++ left) c.in-None.is) h

@@ -1,7 +1,6 @@
-use Rattle.session_script.proofs.Imports.{◌∙◌, ap, sym, line_by, is_kept, view_said}
-use Rattle.session_script.proofs.Asking.{kept_asks}
-use Rattle.session_script.proofs.Standing.{grows}
-use Rattle.session_script.proofs.Suiting.{starts_suit}
+use Rattle.session_script.proofs.Imports.{◌∙◌, ap, sym, subst, line_by, is_kept, view_said, Suits}
+use Rattle.session_script.proofs.Walking.{kept_asks}
+use Rattle.session_script.proofs.Growing.{grows}
 use Rattle.session_script.proofs.reading.Reading.read.Goals as goal
 
 pub returns-in_err-add-in-Ok-clause-memory : goal.returns-in_err-add-in-Ok-clause-memory
@@ -10,9 +9,11 @@ returns-in_err-add-in-Ok-clause-memory c =
 
 pub returns-in_ok-add-in-Ok-clause-says : goal.returns-in_ok-add-in-Ok-clause-says
 returns-in_ok-add-in-Ok-clause-says c = λ above stands.
-    let says = sym (ap (λ part. line_by part c.args.line.now) stands.part) ∙ c.in-Ok.ensures.gives in (
+    let says = sym (ap (λ part. line_by part c.args.line.now) stands.part) ∙ c.in-Ok.ensures.gives in
+    let suits = subst (λ part. Suits part (view_said c.in-Ok.said)) stands.part c.in-Ok.ensures.suits in (
       view_said c.in-Ok.said,
       says,
+      suits,
       grows c.args.self.now c.add.new.self c.saturating_add-number.result above (view_said c.in-Ok.said) stands c.saturating_add-number.ensures
-          (λ e. sym stands.part ∙ starts_suit c.args.self.now.part c.in-Ok.said c.in-Ok.ensures.suits e) (c.in_ok-add-in-Ok.ensures.adds stands.shape),
+          suits c.in-Ok.ensures.range (c.in_ok-add-in-Ok.ensures.adds stands.shape),
     )

@@ -1,5 +1,0 @@
-use Rattle.session.proofs.Words.{ℕ, ◌<◌, ◌≢◌, slice_index_or, numbers_of}
-use Rattle.session.proofs.editors.place_of.Given as goal
-
-abbrev pub invariant-loop-place : goal.invariant-loop-place
-invariant-loop-place l = (k : ℕ) → k < l.place → slice_index_or (numbers_of l.seats) k l.number ≢ l.number
