@@ -5,3 +5,5 @@ pub mod Finding
 pub mod ModuleLaws
 pub mod Spellings
 pub mod PutTogether
+pub mod Octets
+pub mod CallerLemmas

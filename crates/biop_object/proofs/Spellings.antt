@@ -192,10 +192,18 @@ spellable_reads place kind key entries k all small =
     let body = subst (λ (g : Grammar Shape). Reads g (body_of entries) o) (sym (folder_kind kind there).1) (folder_body entries all (omega (arith, few_entries entries, small))) in
     biop_reads place key (kind_of kind) [] (body_of entries) o (omega (arith, k)) (omega (arith, four_of)) (omega arith) (omega (arith, small, lines_length entries (are_entries entries all))) body
 
+spellable_entries : (entries : List Written) → All IsEntry entries → All (λ w. w.location.carousel < 4294967296) entries → All IsSpellableEntry entries
+spellable_entries entries all room i w lt = record { name = (all i w lt).name; location = ((all i w lt).key, room i w lt); listed = (all i w lt).listed }
+
 pub folder_reads : (place : ℕ) (kind : FolderKind) (key : List ℕ) (entries : List Written) → length key ≡ 4 → All IsEntry entries → All (λ w. iors.IsLocation w.location) entries → folder_size entries ≤ 1048576
     → ReadsObject place (folder_spelling kind key entries) (record { key = key; shape = IsFolder (map binding_of entries) })
-folder_reads place kind key entries k all room small =
-    spellable_reads place kind key entries k (λ i w lt. record { name = (all i w lt).name; location = ((all i w lt).key, (room i w lt).carousel); listed = (all i w lt).listed }) small
+folder_reads place kind key entries k all room small = spellable_reads place kind key entries k (spellable_entries entries all (λ i w lt. (room i w lt).carousel)) small
+
+-- a folder that isn't too large has few entries
+pub folder_spellable : (kind : FolderKind) (key : List ℕ) (entries : List Written) → length key ≡ 4 → All IsEntry entries → All (λ w. w.location.carousel < 4294967296) entries
+    → length (folder_spelling kind key entries) ≤ 1048576 → IsSpellable (AFolder kind key entries)
+folder_spellable kind key entries k all room small =
+    (k, omega (arith, few_entries entries, folder_length kind key entries k all, small), small, spellable_entries entries all room)
 
 pub folder_is : (kind : FolderKind) (key : List ℕ) (entries : List Written) (size : ℕ) → length key ≡ 4 → All IsEntry entries → size ≡ folder_size entries
     → biop_prefix key (kind_of kind) [] (size - MESSAGE_HEAD - 20) ++ two_bytes (length entries) ++ lines_of entries ≡ folder_spelling kind key entries

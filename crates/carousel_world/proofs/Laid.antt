@@ -1,5 +1,5 @@
 -- The generations of a tree of one file, written out.
-use Rattle.std.proofs.Common.{◌≡◌, ℕ, List, [], ◌∷◌, map, Some, refl, ap, ◌∙◌}
+use Rattle.std.proofs.Common.{◌≡◌, ℕ, List, [], ◌∷◌, Some, refl, ap, ◌∙◌}
 use Rattle.std.specs.List.{flat_map}
 use Rattle.path_tree.specs.Paths.{Bytes}
 use Rattle.path_tree.specs.Trees.{Tree}
@@ -7,7 +7,7 @@ use Rattle.biop_object.specs.Names.{Layout}
 use Rattle.module_packer.specs.Kept.{kept_modules, least_with}
 use Rattle.generation.specs.Publication.{gateway_spot}
 use Rattle.generation.specs.Layouts.{GenerationState, Placed, object_bytes, gateway_before, first_of, next_of}
-use Rattle.generation.specs.Kept.{layouts_of, states_from}
+use Rattle.generation.specs.Kept.{layouts_of}
 use Rattle.carousel_world.specs.Instances.{tree_of, seven, empty_gateway}
 use Rattle.carousel_world.proofs.Instances.{letter, first_content, second_content}
 
@@ -62,13 +62,10 @@ again_after = refl
 
 -- ---- from the first on
 
-abbrev from : GenerationState → List Tree → List Layout
-from g trees = map (λ s. s.layout) (states_from g trees)
-
 both_laid : (t u : Tree) (s after : GenerationState) → next_of empty t ≡ s → next_of s u ≡ after → layouts_of 1 (t ∷ u ∷ []) ≡ empty.layout ∷ s.layout ∷ after.layout ∷ []
 both_laid t u s after e f =
-    ap (λ (g : GenerationState). from g (t ∷ u ∷ [])) is_empty
-    ∙ (ap (λ (g : GenerationState). empty.layout ∷ from g (u ∷ [])) e ∙ ap (λ (g : GenerationState). empty.layout ∷ s.layout ∷ g.layout ∷ []) f)
+    ap (λ (g : GenerationState). g.layout ∷ (next_of g t).layout ∷ (next_of (next_of g t) u).layout ∷ []) is_empty
+    ∙ (ap (λ (g : GenerationState). empty.layout ∷ g.layout ∷ (next_of g u).layout ∷ []) e ∙ ap (λ (g : GenerationState). empty.layout ∷ s.layout ∷ g.layout ∷ []) f)
 
 pub changed_laid : layouts_of 1 (tree_of first_content ∷ tree_of second_content ∷ []) ≡ laid first_content second_content
 changed_laid = both_laid (tree_of first_content) (tree_of second_content) (generation_with 1 first_content 1) (generation_with 2 second_content 2) first_after second_after

@@ -176,10 +176,10 @@ fn found_text(line: Line, found: Found) -> Line {
 }
 
 /// The folder that the module has under the key that the second word of a row says.
-fn folder_in(row: &Row<'_>, module: &Module) -> Option<usize>
-    ensures { IfSome result (λ folder. IsSome (bindings_of module.now folder)) }
+fn folder_in(row: &Row<'_>, objects: &Module) -> Option<usize>
+    ensures { IfSome result (λ folder. IsSome (bindings_of objects.now folder)) }
 {
-    match module.find(&row.octets(1)) {
+    match objects.find(&row.octets(1)) {
         Found::Folder(folder) => Some(folder),
         _ => None,
     }

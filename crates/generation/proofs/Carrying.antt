@@ -1,141 +1,264 @@
--- The modules carry the tree.
-use Rattle.std.proofs.Common.{◌≡◌, ℕ, zero, suc, ◌+◌, ◌<◌, ◌≤◌, true, ◌==◌, List, [], ◌∷◌, ◌++◌, length, map, take, drop, Option, Some, None, refl, sym, ◌∙◌, ap, subst, arith, append_assoc, length-append, ◌⊎◌, inl, inr, max, ◌≢◌}
-use Rattle.generation.proofs.Words.{All, list_any, range_with_len, filter, filter_map, flat_map, find, fold, option_map, All-cons, All-map, All-filter, or_right, eq-eqb, cond_both, cases_eq, cases_Bool, ne_eqb, drop-drop, drop_at, take_at, Bytes, same_name, Tree, IsTree, module_in, Thing, AFile, AFolder, thing_at, thing_in, thing_of, first_of_key, binding_of, file_spelling, index_of, Spelled, spelled_bytes, spelled_object, spelled_objects, IsSpellable, SpellingsReadBack, GREATEST_ID, spots_of, gateway_spot, key_bytes, location_of, folder_kind_of, object_bytes, is_in, module_bytes, module_if_used, layout_of, greatest, Placed, entries_of, All-tail, All-head, option_cases, all_unmap}
-use Rattle.generation.proofs.Placing.{fold_least}
-use Rattle.biop_object.specs.Spelled.{AFile as SpelledFile, AFolder as SpelledFolder}
+-- The modules carry the tree. A path names in them what stands there: each folder holds what stands in it, and so on down. Every module reads
+-- to its end, and every binding leads into a listed module.
+use Rattle.std.proofs.Common.{◌≡◌, ◌≢◌, ℕ, zero, suc, ◌+◌, ◌-◌, ◌<◌, ◌≤◌, ◌&&◌, ◌==◌, List, [], ◌∷◌, ◌++◌, length, map, take, drop, Option, Some, None, cond, refl, sym, ◌∙◌, ap, subst, arith, append-nil, inl, inr, max, get_or}
+use Rattle.generation.proofs.Words.{All, list_any, list_any_at, drop-drop, drop_at, All-contains, length-range_with_len, get_or-range_with_len, cond_some, some_pair_parts, Object, shape_bindings, unwrap_or, Node, spelled, range_with_len, filter, filter_map, flat_map, find, fold, cons_option, All-cons, All-nil, All-map, All-filter, get_or-map, get_or_default, length-map, eq-eqb, cond_both, cases_eq, cases_Bool, ne_eqb, take_at, same_Some, Bytes, PathNames, same_name, same_name-refl, Tree, node_at, Nesting, Empty, FileThen, FolderThen, names_in, in_file, stands_in, stands_at, nested, walk, Location, Layout, Thing, AFile, AFolder, module_in, thing_at, thing_in, thing_of, thing_named, location_in, first_of_key, binding_of, Written, IsFolder, index_of, spelled_bytes, spelled_object, spelled_objects, IsSpellable, SpellingsReadBack, GREATEST_ID, Spot, gateway_spot, below, spots_in, spots_of, is_child, Placed, entries_of, written_in, bound_of, gateway_location, location_of, key_bytes, key_in, placed_at, object_bytes, is_in, module_bytes, module_if_used, layout_of, greatest, ArePlaced, IsId, IsNode, IsInside, Carries, option_cases, all_unmap}
+use Rattle.biop_object.specs.Names.{location_of as location_from}
+use Rattle.generation.specs.Publication.{count_in}
 use Rattle.generation.proofs.Keyed.{Distinct, same_keys}
+use Rattle.generation.proofs.Numbering.{numbers, all_parts}
+use Rattle.generation.proofs.Placing.{each_id, the_gateway, first_one}
+use Rattle.generation.proofs.Standing.{folder_stands}
+use Rattle.ior_tap.specs.Iors as iors
 
--- ---- what an object is to a reader
+-- ---- an object in its module
 
-abbrev pub seen : ℕ → List Placed → Placed → Thing
-seen c objects o = go o.spot.content where
-  go : Option Bytes → Thing
-  go (Some b) = AFile b
-  go None = AFolder (map binding_of (entries_of c objects o.spot.number))
+-- what an object is to a reader, by its content and its bindings
+abbrev shown : Option Bytes → List Written → Thing
+shown (Some b) entries = AFile b
+shown None entries = AFolder (map binding_of entries)
 
-abbrev pub spelled : ℕ → List Placed → Placed → Spelled
-spelled c objects o = go o.spot.content where
-  go : Option Bytes → Spelled
-  go (Some b) = SpelledFile (key_bytes o.key) b
-  go None = SpelledFolder (folder_kind_of o.spot.path) (key_bytes o.key) (entries_of c objects o.spot.number)
+abbrev seen : ℕ → List Placed → Placed → Thing
+seen c objects o = shown o.spot.content (entries_of c objects o.spot.number)
 
-spelled_is : (c : ℕ) (objects : List Placed) (o : Placed) → spelled_bytes (spelled c objects o) ≡ object_bytes c objects o
-spelled_is c objects o = elim (option_cases o.spot.content) [ inl h ↦ rw h.1 refl | inr h ↦ rw h refl ]
+-- an object that stands at a place of its module, or what is read after it
+one_read : (c : ℕ) (objects : List Placed) (o : Placed) (key whole later : Bytes) (at : ℕ) (next : Option Thing) → drop at whole ≡ object_bytes c objects o ++ later
+    → cond (same_name key (spelled_object at (spelled c objects o)).key) (Some (thing_of whole (spelled_object at (spelled c objects o)).shape)) next
+    ≡ cond (same_name key (key_bytes o.key)) (Some (seen c objects o)) next
+one_read c objects o key whole later at next is = elim (option_cases o.spot.content) [
+  | inl h ↦ rw h.1 (ap (λ b. cond (same_name key (key_bytes o.key)) (Some (AFile b)) next)
+      (ap (take (length h.0)) (sym (drop-drop 44 at whole) ∙ ap (drop 44) (rw h.1 at is)) ∙ take_at h.0 later (length h.0) refl))
+  | inr h ↦ rw h refl
+]
 
-spelled_all : (c : ℕ) (objects os : List Placed) → flat_map spelled_bytes (map (spelled c objects) os) ≡ flat_map (object_bytes c objects) os
-spelled_all c objects [] = refl
-spelled_all c objects (o ∷ os) = λ i. spelled_is c objects o i ++ spelled_all c objects os i
+-- an object is read by its key where these stand at a place of its module
+abbrev IsRead : ℕ → List Placed → List Placed → Placed → Type 0
+IsRead c objects os o = (whole : Bytes) (at : ℕ) → drop at whole ≡ flat_map (object_bytes c objects) os
+    → first_of_key whole (key_bytes o.key) (spelled_objects at (map (spelled c objects) os)) ≡ Some (seen c objects o)
 
--- a file's content stands 44 bytes after the front of its object
-file_content : (before rest : List ℕ) (k : ℕ) (b : Bytes) → take (length b) (drop (length before + 44) (before ++ (file_spelling (key_bytes k) b ++ rest))) ≡ b
-file_content before rest k b =
-    ap (take (length b)) (sym (drop-drop 44 (length before) (before ++ (file_spelling (key_bytes k) b ++ rest))) ∙ ap (drop 44) (drop_at before (file_spelling (key_bytes k) b ++ rest) (length before) refl))
-    ∙ take_at b rest (length b) refl
-
-abbrev pub AreSmall : List Placed → Type 0
-AreSmall os = All (λ o. o.key < 8194) os
-
-spelled_key : (c : ℕ) (objects : List Placed) (o : Placed) (at : ℕ) → (spelled_object at (spelled c objects o)).key ≡ key_bytes o.key
-spelled_key c objects o at = elim (option_cases o.spot.content) [ inl h ↦ rw h.1 refl | inr h ↦ rw h refl ]
-
-spelled_thing : (c : ℕ) (objects : List Placed) (o : Placed) (before rest : Bytes) → thing_of (before ++ (object_bytes c objects o ++ rest)) (spelled_object (length before) (spelled c objects o)).shape ≡ seen c objects o
-spelled_thing c objects o before rest = elim (option_cases o.spot.content) [ inl h ↦ rw h.1 (ap AFile (file_content before rest o.key h.0)) | inr h ↦ rw h refl ]
-
--- the first object of a key, in a module's bytes
-first_found : (c : ℕ) (objects os : List Placed) (before : Bytes) (k : ℕ) → k < 8194 → AreSmall os
-    → first_of_key (before ++ flat_map (object_bytes c objects) os) (key_bytes k) (spelled_objects (length before) (map (spelled c objects) os))
-    ≡ option_map (seen c objects) (find (λ q. k == q.key) os)
-first_found c objects [] before k lk small = refl
-first_found c objects (o ∷ os) before k lk small =
-    let own = object_bytes c objects o in
-    let later = flat_map (object_bytes c objects) os in
-    let test : same_name (key_bytes k) (spelled_object (length before) (spelled c objects o)).key ≡ (k == o.key) = ap (same_name (key_bytes k)) (spelled_key c objects o (length before)) ∙ same_keys k o.key lk (small 0 o (omega arith)) in
-    let place : length (before ++ own) ≡ length before + length (spelled_bytes (spelled c objects o)) = omega (arith, length-append before own, ap length (spelled_is c objects o)) in
-    let rest : first_of_key (before ++ (own ++ later)) (key_bytes k) (spelled_objects (length before + length (spelled_bytes (spelled c objects o))) (map (spelled c objects) os)) ≡ option_map (seen c objects) (find (λ q. k == q.key) os) =
-    (λ i. first_of_key (sym (append_assoc before own later) i) (key_bytes k) (spelled_objects (sym place i) (map (spelled c objects) os)))
-    ∙ first_found c objects os (before ++ own) k lk (All-tail (λ q. q.key < 8194) o os small) in
-    elim (cases_Bool (k == o.key)) [ inl e ↦ rw (test, e) (ap Some (spelled_thing c objects o before later)) | inr e ↦ rw (test, e) rest ]
-
--- ---- an object among others
-
-abbrev pub In : Placed → List Placed → Type 0
-In o [] = ⊥
-In o (x ∷ xs) = (x ≡ o) ⊎ In o xs
-
-pub in_all : (P : Placed → Type 0) (xs : List Placed) (o : Placed) → All P xs → In o xs → P o
-in_all P [] o all has = absurd has
-in_all P (x ∷ xs) o all (inl is) = subst P is (All-head P x xs all)
-in_all P (x ∷ xs) o all (inr has) = in_all P xs o (All-tail P x xs all) has
-
-pub all_in : (P : Placed → Type 0) (xs : List Placed) → ((o : Placed) → In o xs → P o) → All P xs
-all_in P [] h = λ k d lt. absurd (omega arith)
-all_in P (x ∷ xs) h = All-cons P x xs (h x (inl refl)) (all_in P xs (λ o has. h o (inr has)))
-
--- the object of its key in its module
-key_found : (xs : List Placed) (o : Placed) → Distinct (map (λ x. x.key) xs) → In o xs → find (λ q. o.key == q.key) (filter (is_in o.module_id) xs) ≡ Some o
-key_found [] o d has = absurd has
-key_found (x ∷ xs) o d (inl is) = subst (λ z. find (λ q. z.key == q.key) (filter (is_in z.module_id) (x ∷ xs)) ≡ Some z) is (rw (eq-eqb x.module_id x.module_id refl, eq-eqb x.key x.key refl) refl)
-key_found (x ∷ xs) o d (inr has) =
-    let other : x.key ≢ o.key = in_all (λ y. x.key ≢ y.key) xs o (all_unmap (λ k. x.key ≢ k) (λ y. y.key) xs d.0) has in
-    cond_both (is_in o.module_id x) (x ∷ filter (is_in o.module_id) xs) (filter (is_in o.module_id) xs) (λ l. find (λ q. o.key == q.key) l ≡ Some o)
-    (λ _. rw (ne_eqb o.key x.key (λ e. other (sym e))) (key_found xs o d.1 has)) (λ _. key_found xs o d.1 has)
-
-used : (xs : List Placed) (o : Placed) → In o xs → list_any (is_in o.module_id) xs ≡ true
-used [] o has = absurd has
-used (x ∷ xs) o (inl is) = subst (λ z. list_any (is_in z.module_id) (x ∷ xs) ≡ true) is (rw (eq-eqb x.module_id x.module_id refl) refl)
-used (x ∷ xs) o (inr has) = or_right (is_in o.module_id x) (list_any (is_in o.module_id) xs) (used xs o has)
+each_read : (c : ℕ) (objects os : List Placed) → Distinct (map (λ o. o.key) os) → All (λ o. o.key < 8194) os → All (λ o. IsRead c objects (filter (is_in o.module_id) os) o) os
+each_read c objects [] apart small k d lt = absurd (omega (arith, lt))
+each_read c objects (x ∷ xs) apart small zero d lt =
+    rw (eq-eqb x.module_id x.module_id refl) (λ whole at is. one_read c objects x (key_bytes x.key) whole _ at _ is ∙ rw (same_name-refl (key_bytes x.key)) refl)
+each_read c objects (x ∷ xs) apart small (suc k) d lt =
+    let o = get_or xs k d in
+    let more = filter (is_in o.module_id) xs in
+    let own = object_bytes c objects x in
+    let rest = each_read c objects xs apart.1 (λ i e l. small (suc i) e (omega (arith, l))) k d (omega (arith, lt)) in
+    let other = all_unmap (λ j. x.key ≢ j) (λ y. y.key) xs apart.0 k d (omega (arith, lt)) in
+    cond_both (is_in o.module_id x) (x ∷ more) more (λ l. IsRead c objects l o) (λ _ whole at is. one_read c objects x (key_bytes o.key) whole _ at _ is
+    ∙ rw (same_keys o.key x.key (small (suc k) d lt) (small 0 o (omega arith)), ne_eqb o.key x.key (λ e. other (sym e)))
+    (rest whole (at + length own) (sym (drop-drop (length own) at whole) ∙ (ap (drop (length own)) is ∙ drop_at own _ (length own) refl)))) (λ _. rest)
 
 -- ---- modules
 
-pub in_range : (c : ℕ) (objects : List Placed) (a n m : ℕ) → a ≤ m → m < a + n → list_any (is_in m) objects ≡ true
-    → module_in (filter_map (module_if_used c objects) (range_with_len a n)) m ≡ Some (module_bytes c objects m)
-in_range c objects a zero m low high has = absurd (omega (arith, low, high))
-in_range c objects a (suc n) m low high has = elim (cases_eq a m) [
-  | inl is ↦
-      let here : list_any (is_in a) objects ≡ true = subst (λ z. list_any (is_in z) objects ≡ true) (sym is) has in
-      rw (here, eq-eqb a m is) (ap (λ z. Some (module_bytes c objects z)) is)
-  | inr ne ↦
-      let rest = in_range c objects (a + 1) n m (omega (arith, low, ne)) (omega (arith, high)) has in
-      elim (cases_Bool (list_any (is_in a) objects)) [ inl h ↦ rw (h, ne_eqb a m ne) rest | inr h ↦ rw h rest ]
-]
+-- what holds of each that is given for an element holds of all
+pub all_kept : {A B : Type 0} (P : B → Type 0) (f : A → Option B) (xs : List A) → All (λ x. (y : B) → f x ≡ Some y → P y) xs → All P (filter_map f xs)
+all_kept P f [] h = All-nil P
+all_kept P f (x ∷ xs) h =
+    let rest = all_kept P f xs (λ k d lt. h (suc k) d (omega (arith, lt))) in
+    elim (option_cases (f x)) [ inl s ↦ rw s.1 (All-cons P s.0 (filter_map f xs) (h 0 x (omega arith) s.0 s.1) rest) | inr none ↦ rw none rest ]
 
-below_greatest : (os : List Placed) (a : ℕ) (o : Placed) → In o os → o.module_id ≤ fold max a (map (λ x. x.module_id) os)
-below_greatest [] a o has = absurd has
-below_greatest (x ∷ xs) a o (inl is) = subst (λ z. z.module_id ≤ fold max (max a x.module_id) (map (λ y. y.module_id) xs)) is (omega (arith, fold_least (map (λ y. y.module_id) xs) (max a x.module_id)))
-below_greatest (x ∷ xs) a o (inr has) = below_greatest xs (max a x.module_id) o has
+most : (a : ℕ) (ms : List ℕ) → (a ≤ fold max a ms) × All (λ m. m ≤ fold max a ms) ms
+most a [] = (omega arith, All-nil (λ m. m ≤ a))
+most a (m ∷ ms) =
+    let rest = most (max a m) ms in (omega (arith, rest.0), All-cons (λ k. k ≤ fold max (max a m) ms) m ms (omega (arith, rest.0)) rest.1)
 
-pub module_found : (c : ℕ) (objects : List Placed) (o : Placed) → In o objects → 1 ≤ o.module_id → module_in (layout_of c objects) o.module_id ≡ Some (module_bytes c objects o.module_id)
-module_found c objects o has low =
-    let most = below_greatest objects 0 o has in
-    in_range c objects 1 (greatest (map (λ x. x.module_id) objects)) o.module_id low (omega (arith, most)) (used objects o has)
+module _ (c : ℕ) (objects : List Placed) where
+  -- of these ids, those of the modules that have an object are listed
+  listed : (m : ℕ) (ids : List ℕ) → module_in (filter_map (module_if_used c objects) ids) m ≡ cond (list_any (is_in m) objects && list_any (λ j. j == m) ids) (Some (module_bytes c objects m)) None
+  listed m [] = elim (cases_Bool (list_any (is_in m) objects)) [ inl e ↦ rw e refl | inr e ↦ rw e refl ]
+  listed m (j ∷ ids) =
+      let rest = listed m ids in
+      elim (cases_eq j m) [
+        | inl is ↦ elim (cases_Bool (list_any (is_in m) objects)) [ inl e ↦ rw (is, e, eq-eqb m m refl) refl | inr e ↦ rw (is, e) (rw e at rest) ]
+        | inr ne ↦ elim (cases_Bool (list_any (is_in j) objects)) [ inl e ↦ rw (e, ne_eqb j m ne) rest | inr e ↦ rw (e, ne_eqb j m ne) rest ]
+      ]
 
--- what is asked of a generation's objects
-pub record Sound (c : ℕ) (t : Tree) (objects : List Placed) : Type 0 where
-  pub tree : IsTree t
-  pub carousel : c < 4294967296
-  pub spots : map (λ o. o.spot) objects ≡ spots_of t
+  pub listed_bytes : (m : ℕ) (bytes : Bytes) → module_in (layout_of c objects) m ≡ Some bytes → bytes ≡ module_bytes c objects m
+  listed_bytes m bytes e = sym (cond_some _ (module_bytes c objects m) bytes (sym (listed m (range_with_len 1 (greatest (map (λ o. o.module_id) objects)))) ∙ e)).1
+
+  -- each object's module is listed
+  pub each_listed_in : All (λ o. IsId o.module_id) objects → All (λ o. module_in (layout_of c objects) o.module_id ≡ Some (module_bytes c objects o.module_id)) objects
+  each_listed_in ids k d lt =
+      let o = get_or objects k d in
+      let top = greatest (map (λ q. q.module_id) objects) in
+      let least : 1 ≤ o.module_id = (ids k d lt).0 in
+      let le : o.module_id ≤ top = all_unmap (λ m. m ≤ top) (λ q. q.module_id) objects (most 0 (map (λ q. q.module_id) objects)).1 k d lt in
+      let used = list_any_at (is_in o.module_id) objects k d lt (eq-eqb o.module_id o.module_id refl) in
+      let at : get_or (range_with_len 1 top) (o.module_id - 1) 0 ≡ o.module_id = omega (arith, get_or-range_with_len 1 top (o.module_id - 1) 0 (omega (arith, le, least))) in
+      let id = list_any_at (λ j. j == o.module_id) (range_with_len 1 top) (o.module_id - 1) 0 (omega (arith, le, least, length-range_with_len 1 top)) (eq-eqb _ o.module_id at) in
+      listed o.module_id (range_with_len 1 top) ∙ rw (used, id) refl
+
+-- ---- which objects stand in a folder
+
+-- objects by where the one of a number lies
+module _ (place : ℕ → Location) where
+  abbrev bound : ℕ → Bytes → Option Bytes → Written
+  bound number n content = record { name = n; bound = bound_of content; location = place number }
+
+  -- the bindings of what stands right in a folder, whose first object has number `next`
+  abbrev held_in : ℕ → Nesting → List Written
+  held_in next Empty = []
+  held_in next (FileThen n b rest) = bound next n (Some b) ∷ held_in (suc next) rest
+  held_in next (FolderThen n made inside rest) = bound next n None ∷ held_in (suc (next + count_in inside)) rest
+
+  held_names : (next : ℕ) (g : Nesting) → map (λ x. x.name) (map binding_of (held_in next g)) ≡ names_in g
+  held_names next Empty = refl
+  held_names next (FileThen n b rest) = ap (λ l. n ∷ l) (held_names (suc next) rest)
+  held_names next (FolderThen n made inside rest) = ap (λ l. n ∷ l) (held_names (suc (next + count_in inside)) rest)
+
+  -- the bindings of those of the objects that name a folder
+  abbrev held_by : ℕ → List Spot → List Written
+  held_by i ss = filter_map (λ s. cond (is_child i s) (Some (bound s.number s.name s.content)) None) ss
+
+  by_folder : (i : ℕ) (n : Bytes) (xs ys : List Spot) → held_by i (map (below n) xs ++ ys) ≡ held_by i xs ++ held_by i ys
+  by_folder i n [] ys = refl
+  by_folder i n (s ∷ ss) ys = elim (cases_Bool (is_child i s)) [ inl e ↦ rw e (ap (λ l. bound s.number s.name s.content ∷ l) (by_folder i n ss ys)) | inr e ↦ rw e (by_folder i n ss ys) ]
+
+  -- of a folder that doesn't stand in this one: what stands right in it, where it is this one, and else none
+  held : (i parent next : ℕ) (g : Nesting) → (next ≤ i → i < next + count_in g → ⊥) → held_by i (spots_in parent next g) ≡ cond (parent == i) (held_in next g) []
+  held i parent next Empty out = elim (cases_Bool (parent == i)) [ inl e ↦ rw e refl | inr e ↦ rw e refl ]
+  held i parent next (FileThen n b rest) out =
+      let later = held i parent (suc next) rest (λ low lt. out (omega (arith, low)) (omega (arith, lt))) in
+      elim (cases_Bool (parent == i)) [ inl e ↦ rw e (ap (λ l. bound next n (Some b) ∷ l) (rw e at later)) | inr e ↦ rw e (rw e at later) ]
+  held i parent next (FolderThen n made inside rest) out =
+      let more = suc (next + count_in inside) in
+      let none = rw (ne_eqb next i (λ e. out (omega (arith, e)) (omega (arith, e)))) at (held i next (suc next) inside (λ low lt. out (omega (arith, low)) (omega (arith, lt)))) in
+      let beside = held i parent more rest (λ low lt. out (omega (arith, low)) (omega (arith, lt))) in
+      let later = by_folder i n (spots_in next (suc next) inside) (spots_in parent more rest) ∙ (λ j. none j ++ beside j) in
+      elim (cases_Bool (parent == i)) [ inl e ↦ rw e (ap (λ l. bound next n None ∷ l) (rw e at later)) | inr e ↦ rw e (rw e at later) ]
+
+  -- ---- the walk, where folders have these bindings by their numbers
+
+  module _ (ms : Layout) (folders : ℕ → List Written) where
+    -- an object lies at its place: a file with its bytes, and a folder with its bindings
+    abbrev IsSeen : Spot → Type 0
+    IsSeen s = thing_at ms (place s.number) ≡ Some (shown s.content (folders s.number))
+
+    -- a name among those of a folder, and more names below it, lead to what stands there
+    abbrev Leads : ℕ → Nesting → Type 0
+    Leads next g = (n : Bytes) (q : PathNames) → IsNode (thing_named ms (location_in (find (λ b. same_name n b.name) (map binding_of (held_in next g)))) q) (stands_in g n q)
+
+    -- what lies at a place, and what names below it lead to
+    from_place : (l : Location) (x : Thing) (node : PathNames → Node) → thing_at ms l ≡ Some x → IsNode (Some x) (node [])
+        → ((n : Bytes) (q : PathNames) → IsNode (thing_named ms (location_from n (Some x)) q) (node (n ∷ q))) → (q : PathNames) → IsNode (thing_named ms (Some l) q) (node q)
+    from_place l x node is own each [] = rw is own
+    from_place l x node is own each (n ∷ q) = subst (λ (y : Option Thing). IsNode (thing_named ms (location_from n y) q) (node (n ∷ q))) (sym is) (each n q)
+
+    at_folder : (k : ℕ) (g : Nesting) → folders k ≡ held_by k (spots_in k (suc k) g) → thing_at ms (place k) ≡ Some (AFolder (map binding_of (folders k))) → Leads (suc k) g
+        → (q : PathNames) → IsNode (thing_named ms (Some (place k)) q) (stands_at g q)
+    at_folder k g own is each =
+        let held_here : folders k ≡ held_in (suc k) g = own ∙ (held k k (suc k) g (λ low lt. omega (arith, low)) ∙ rw (eq-eqb k k refl) refl) in
+        from_place (place k) (AFolder (map binding_of (held_in (suc k) g))) (stands_at g) (is ∙ ap (λ l. Some (AFolder (map binding_of l))) held_here) (held_names (suc k) g) each
+
+    named : (parent next : ℕ) (g : Nesting) → parent < next → ((i : ℕ) → next ≤ i → i < next + count_in g → folders i ≡ held_by i (spots_in parent next g))
+        → All IsSeen (spots_in parent next g) → Leads next g
+    named parent next Empty up stand all n q = tt
+    named parent next (FileThen m b rest) up stand all n q =
+        let later = named parent (suc next) rest (omega (arith, up)) (λ i low lt. stand i (omega (arith, low)) (omega (arith, lt)) ∙ rw (ne_eqb parent i (λ e. omega (arith, up, low, e))) refl)
+        (λ k d lt. all (suc k) d (omega (arith, lt))) n q in
+        elim (cases_Bool (same_name n m)) [ inl e ↦ rw e (from_place (place next) (AFile b) (in_file b) (all 0 gateway_spot (omega arith)) refl (λ k ks. tt) q) | inr e ↦ rw e later ]
+    named parent next (FolderThen m made inside rest) up stand all n q =
+        let more = suc (next + count_in inside) in
+        let os = spots_in next (suc next) inside in
+        let ps = spots_in parent more rest in
+        let parts = all_parts IsSeen (map (below m) os) ps (λ k d lt. all (suc k) d (omega (arith, lt))) in
+        let both : (i : ℕ) → next ≤ i → i < more + count_in rest → folders i ≡ held_by i os ++ held_by i ps =
+        λ i low lt. stand i low (omega (arith, lt)) ∙ rw (ne_eqb parent i (λ e. omega (arith, up, low, e))) (by_folder i m os ps) in
+        let inner : (i : ℕ) → next ≤ i → i < more → folders i ≡ held_by i os = λ i low lt. both i low (omega (arith, lt))
+        ∙ (ap (λ l. held_by i os ++ l) (rw (ne_eqb parent i (λ e. omega (arith, up, low, e))) at (held i parent more rest (λ over end. omega (arith, lt, over)))) ∙ append-nil (held_by i os)) in
+        let outer : (i : ℕ) → more ≤ i → i < more + count_in rest → folders i ≡ held_by i ps = λ i low lt. both i (omega (arith, low)) lt
+        ∙ ap (λ l. l ++ held_by i ps) (rw (ne_eqb next i (λ e. omega (arith, low, e))) at (held i next (suc next) inside (λ over end. omega (arith, low, end)))) in
+        let deep = named next (suc next) inside (omega arith) (λ i low lt. inner i (omega (arith, low)) (omega (arith, lt))) (all_unmap IsSeen (below m) os parts.0) in
+        let own = at_folder next inside (inner next (omega arith) (omega arith)) (all 0 gateway_spot (omega arith)) deep q in
+        rw (folder_stands m made inside rest n q) (elim (cases_Bool (same_name n m)) [ inl e ↦ rw e own | inr e ↦ rw e (named parent more rest (omega (arith, up)) outer parts.1 n q) ])
+
+-- a folder's bindings, where each object lies at the place of its number
+entries_are : (c : ℕ) (place : ℕ → Location) (os : List Placed) (i : ℕ) → All (λ o. place o.spot.number ≡ location_of c o) os → entries_of c os i ≡ held_by place i (map (λ o. o.spot) os)
+entries_are c place [] i lie = refl
+entries_are c place (o ∷ os) i lie = λ j. cons_option
+    (cond (is_child i o.spot) (Some (record { name = o.spot.name; bound = bound_of o.spot.content; location = sym (lie 0 o (omega arith)) j })) None)
+    (entries_are c place os i (λ k d lt. lie (suc k) d (omega (arith, lt))) j)
+
+-- ---- bindings
+
+-- a binding that is written into a listed module; the delivery is read back out of its tap, and is by the DII of the module's group
+binding_inside : (c : ℕ) (layout : Layout) (w : Written) → w.location.carousel ≡ c → module_in layout w.location.module ≢ None → w.location.module ≤ GREATEST_ID → IsInside layout c (binding_of w)
+binding_inside c layout w own there le = record {
+  inside = λ l taps e. rw (← (some_pair_parts w.location l (iors.written_tap w.location.module ∷ []) taps e).0) (own, there);
+  delivered = λ l taps t e d.
+      let is = some_pair_parts w.location l (iors.written_tap w.location.module ∷ []) taps e in
+      let number = same_Some _ t (ap iors.delivery_of_taps is.1 ∙ d) in
+      rw (← is.0) (omega (arith, le, number));
+}
+
+-- ---- a generation's objects
+
+-- placed objects with keys that are apart and small, that of the gateway being 1
+pub record State (t : Tree) (objects : List Placed) : Type 0 where
+  pub placed : ArePlaced t objects
   pub keys : Distinct (map (λ o. o.key) objects)
-  pub small : AreSmall objects
-  pub modules : All (λ o. (1 ≤ o.module_id) × (o.module_id ≤ GREATEST_ID)) objects
-  pub spellable : All (λ o. IsSpellable (spelled c objects o)) objects
-  pub gateway : Placed
-  pub has_gateway : In gateway objects
-  pub is_gateway : (gateway.spot ≡ gateway_spot) × (gateway.key ≡ 1) × (gateway.module_id ≡ 1)
+  pub small : All (λ o. o.key < 8194) objects
+  pub gateway : key_in (placed_at objects gateway_spot) ≡ Some 1
 
-pub module_index : SpellingsReadBack → (c : ℕ) (t : Tree) (objects : List Placed) → Sound c t objects → (m : ℕ)
-    → index_of (module_bytes c objects m) ≡ (spelled_objects 0 (map (spelled c objects) (filter (is_in m) objects)), None)
-module_index law c t objects sound m =
-    ap index_of (sym (spelled_all c objects (filter (is_in m) objects)))
-    ∙ law (map (spelled c objects) (filter (is_in m) objects)) (All-map IsSpellable (spelled c objects) (filter (is_in m) objects) (All-filter (is_in m) (λ o. IsSpellable (spelled c objects o)) objects sound.spellable))
+module _ (law : SpellingsReadBack) (c : ℕ) (t : Tree) (objects : List Placed) (state : State t objects)
+    (spellable : All (λ o. IsSpellable (spelled c objects o)) objects) where
+  -- a module is read as its objects, to its end
+  index : (m : ℕ) → index_of (module_bytes c objects m) ≡ (spelled_objects 0 (map (spelled c objects) (filter (is_in m) objects)), None)
+  index m = ap index_of (sym (each (filter (is_in m) objects))) ∙ law (map (spelled c objects) (filter (is_in m) objects))
+      (All-map IsSpellable (spelled c objects) (filter (is_in m) objects) (All-filter (is_in m) (λ o. IsSpellable (spelled c objects o)) objects spellable)) where
+        each : (os : List Placed) → flat_map spelled_bytes (map (spelled c objects) os) ≡ flat_map (object_bytes c objects) os
+        each [] = refl
+        each (o ∷ os) = ap (λ l. object_bytes c objects o ++ l) (each os)
 
--- a location leads to its object
-pub thing_found : SpellingsReadBack → (c : ℕ) (t : Tree) (objects : List Placed) → Sound c t objects → (o : Placed) → In o objects
-    → thing_at (layout_of c objects) (location_of c o) ≡ Some (seen c objects o)
-thing_found law c t objects sound o has =
-    let m = o.module_id in
-    let bytes = module_bytes c objects m in
-    let key = in_all (λ q. q.key < 8194) objects o sound.small has in
-    ap (λ b. thing_in b (key_bytes o.key)) (module_found c objects o has (in_all (λ q. (1 ≤ q.module_id) × (q.module_id ≤ GREATEST_ID)) objects o sound.modules has).0)
-    ∙ (ap (λ i. first_of_key bytes (key_bytes o.key) i.0) (module_index law c t objects sound m)
-    ∙ (first_found c objects (filter (is_in m) objects) [] o.key key (All-filter (is_in m) (λ q. q.key < 8194) objects sound.small)
-    ∙ ap (option_map (seen c objects)) (key_found objects o sound.keys has)))
+  -- a location leads to its object
+  found : All (λ o. thing_at (layout_of c objects) (location_of c o) ≡ Some (seen c objects o)) objects
+  found k d lt =
+      let o = get_or objects k d in
+      ap (λ b. thing_in b (key_bytes o.key)) (each_listed_in c objects (each_id t objects state.placed) k d lt)
+      ∙ (ap (λ i. first_of_key (module_bytes c objects o.module_id) (key_bytes o.key) i.0) (index o.module_id)
+      ∙ each_read c objects objects state.keys state.small k d lt (module_bytes c objects o.module_id) 0 refl)
+
+  paths : (p : PathNames) → IsNode (thing_named (layout_of c objects) (Some (gateway_location c)) p) (node_at t p)
+  paths p =
+      let ms = layout_of c objects in
+      let h = the_gateway t objects state.placed.spots in
+      let place : ℕ → Location = λ k. location_of c (get_or objects k h.gateway) in
+      let top : place 0 ≡ gateway_location c = ap (λ os. location_of c (get_or os 0 h.gateway)) h.first
+      ∙ rw (same_Some h.gateway.key 1 (sym (ap key_in h.found) ∙ state.gateway), first_one objects h (λ o. o.module_id) state.placed.placement.first) refl in
+      let lie : All (λ o. place o.spot.number ≡ location_of c o) objects = λ i d lt.
+      let number = ap (λ (s : Spot). s.number) (sym (get_or-map (λ o. o.spot) objects i d d.spot lt) ∙ ap (λ ss. get_or ss i d.spot) state.placed.spots)
+      ∙ numbers t state.placed.tree i d.spot (omega (arith, lt, length-map objects (λ (o : Placed). o.spot), ap length state.placed.spots)) in
+      ap place number ∙ ap (location_of c) (get_or_default objects i h.gateway d lt) in
+      let stand : (i : ℕ) → entries_of c objects i ≡ held_by place i (spots_in 0 1 (nested t)) = λ i. entries_are c place objects i lie ∙ ap (held_by place i) state.placed.spots in
+      let all : All (IsSeen place ms (entries_of c objects)) (spots_of t) = subst (All (IsSeen place ms (entries_of c objects))) state.placed.spots
+      (All-map (IsSeen place ms (entries_of c objects)) (λ o. o.spot) objects (λ k d lt. ap (thing_at ms) (lie k d lt) ∙ found k d lt)) in
+      let leads = named place ms (entries_of c objects) 0 1 (nested t) (omega arith) (λ i low lt. stand i) (λ k d lt. all (suc k) d (omega (arith, lt))) in
+      rw (walk t p state.placed.tree) (subst (λ (l : Location). IsNode (thing_named ms (Some l) p) (stands_at (nested t) p)) top
+      (at_folder place ms (entries_of c objects) 0 (nested t) (stand 0) (all 0 gateway_spot (omega arith)) leads p))
+
+  -- what an object's bindings say
+  abbrev BindsInside : Object → Type 0
+  BindsInside x = All (IsInside (layout_of c objects) c) (unwrap_or (shape_bindings x.shape) [])
+
+  objects_inside : (os : List Placed) (at : ℕ) → All BindsInside (spelled_objects at (map (spelled c objects) os))
+  objects_inside [] at = All-nil BindsInside
+  objects_inside (o ∷ os) at = All-cons BindsInside (spelled_object at (spelled c objects o)) (spelled_objects _ (map (spelled c objects) os)) (elim (option_cases o.spot.content) [
+    | inl h ↦ rw h.1 (All-nil (IsInside (layout_of c objects) c))
+    | inr h ↦ rw h (All-map (IsInside (layout_of c objects) c) binding_of (entries_of c objects o.spot.number) (all_kept Lies (written_in c o.spot.number) objects (λ k d lt w e.
+        let there = each_listed_in c objects (each_id t objects state.placed) k d lt in
+        subst Lies (cond_some (is_child o.spot.number (get_or objects k d).spot) _ w e).1
+        (binding_inside c (layout_of c objects) _ refl (λ none. let bad = sym there ∙ none in cc) (each_id t objects state.placed k d lt).1))))
+  ]) (objects_inside os _) where
+    Lies : Written → Type 0
+    Lies w = IsInside (layout_of c objects) c (binding_of w)
+
+  pub carries : Carries c (layout_of c objects) t
+  carries = record {
+    paths = paths;
+    to_end = λ m bytes e. rw (listed_bytes c objects m bytes e, index m) refl;
+    inside = λ m bytes key bindings e has.
+        let is : (index_of bytes).0 ≡ spelled_objects 0 (map (spelled c objects) (filter (is_in m) objects)) = ap (λ b. (index_of b).0) (listed_bytes c objects m bytes e) ∙ ap (λ i. i.0) (index m) in
+        All-contains BindsInside (spelled_objects 0 (map (spelled c objects) (filter (is_in m) objects))) (record { key = key; shape = IsFolder bindings })
+        (objects_inside (filter (is_in m) objects) 0) (rw is at has);
+  }

@@ -1,69 +1,50 @@
 -- What the modules of placed objects hold, and the layout that they make.
-use Rattle.std.proofs.Common.{◌≡◌, ◌≢◌, ℕ, zero, suc, ◌+◌, ◌-◌, ◌<◌, ◌≤◌, max, Bool, true, false, ◌==◌, List, [], ◌∷◌, ◌++◌, length, map, Option, Some, None, cond, refl, sym, ◌∙◌, ap, subst, arith, get_or, append-nil, length-append, inl, inr, lit<, nat_le, sum}
+use Rattle.std.proofs.Common.{◌≡◌, ℕ, zero, suc, ◌+◌, ◌<◌, ◌≤◌, max, Bool, not, ◌==◌, List, [], ◌∷◌, ◌++◌, length, map, Option, Some, None, cond, refl, sym, ◌∙◌, ap, subst, arith, get_or, inl, inr, lit<, nat_le, sum, rules}
 use Rattle.carousel_profile.specs.declared.TheConstants.{BLOCK_SIZE}
-use Rattle.generation.proofs.Words.{All, AllPairs, list_any, range_with_len, filter, filter_map, flat_map, fold, count_by, sum_by, zip, cons_option, cases_eq, cases_lt, eq-eqb, ne_eqb, lt-leb, le-leb, cases_Bool, div_ceil_times, All-map, All-cons, All-nil, All-filter, AllPairs-cons, sum_by-cons, sum-map, sum_by-le, sum_by-le-sum_by, length-flat_map, filter_map-append, map-append, get_or-map, length-map, Bytes, IsBytes, Tree, Layout, module_in, sum_in, block_count_of, AreLines, IsLayout, GREATEST_ID, spots_of, sizes_of, size_of, is_large_folder, object_bytes, is_in, module_bytes, module_if_used, layout_of, lines_in, greatest, view_listed, objects_in, counts_after, Listed, AreMarked, AreReady, ArePlaced, IsRising, CodeObjects, Spot, Placed, all_unmap, option_cases}
-use Rattle.generation.proofs.Numbering.{all_valid, IsValidSpot}
-use Rattle.generation.proofs.Keyed.{range_more}
-use Rattle.generation.proofs.Placing.{within_limits, folder_small, lengths, each_spot, the_gateway, first_one, modules_seen}
-use Rattle.generation.proofs.Carrying.{In, module_found}
-use Rattle.generation.proofs.Octets.{module_octets}
+use Rattle.generation.proofs.Words.{common_steps, nat_tests, flat_map, key_bytes, folder_kind_of, entries_of, All, AllPairs, list_any, range_with_len, filter, filter_map, fold, count_by, sum_by, zip, cases_lt, cases_Bool, div_ceil_times, All-map, All-cons, All-filter, AllPairs-cons, sum_by-cons, sum-map, sum_by-le, length-flat_map, filter_map-append, get_or-map, length-map, Bytes, IsBytes, Tree, Layout, module_in, sum_in, AreLines, IsLayout, GREATEST_ID, object_bytes, is_in, module_bytes, module_if_used, layout_of, lines_in, greatest, objects_in, AreReady, ArePlaced, CodeObjects, Placed, option_cases, map-id, map-range_with_len_more}
+use Rattle.generation.proofs.Placing.{each_entry, are_entries, each_valid, small_folders, within_limits, lengths, the_gateway, first_one, modules_seen, each_id}
+use Rattle.std.proofs.lemmas.List.Filters.{sum_by-filter_both}
+use Rattle.generation.proofs.Carrying.{each_listed_in}
+use Rattle.std.proofs.lemmas.List.Sums.{length-filter}
+use Rattle.std.proofs.lemmas.List.Folds.{fold-map}
+use Rattle.biop_object.proofs.CallerLemmas.{four_octets, flat_octets, file_octets, folder_octets}
+use Rattle.generation.proofs.Grouping.{line_of}
 
 -- ---- modules by rising id
 
-pub greatest_most : (ms : List ℕ) (n : ℕ) → All (λ m. (1 ≤ m) × (m ≤ n)) ms → greatest ms ≤ n
-greatest_most ms n all = go ms 0 n (omega arith) all where
-  go : (ms : List ℕ) (a n : ℕ) → a ≤ n → All (λ m. (1 ≤ m) × (m ≤ n)) ms → fold max a ms ≤ n
-  go [] a n le all = le
-  go (m ∷ ms) a n le all = let h = all 0 m (omega arith) in go ms (max a m) n (omega (arith, le, h.1)) (λ k d lt. all (suc k) d (omega (arith, lt)))
-
--- what holds of each module that is used holds of each that is listed
-pub each_listed : (P : ℕ × Bytes → Type 0) (c : ℕ) (objects : List Placed) (a n : ℕ) → ((m : ℕ) → a ≤ m → m < a + n → list_any (is_in m) objects ≡ true → P (m, module_bytes c objects m))
-    → All P (filter_map (module_if_used c objects) (range_with_len a n))
-each_listed P c objects a zero h = All-nil P
-each_listed P c objects a (suc n) h =
-    let later = each_listed P c objects (a + 1) n (λ m low lt used. h m (omega (arith, low)) (omega (arith, lt)) used) in
-    elim (cases_Bool (list_any (is_in a) objects)) [
-      | inl e ↦ rw e (All-cons P (a, module_bytes c objects a) (filter_map (module_if_used c objects) (range_with_len (a + 1) n)) (h a (omega arith) (omega arith) e) later)
-      | inr e ↦ rw e later
-    ]
-
--- and they rise
-pub rising : (c : ℕ) (objects : List Placed) (a n : ℕ) → AllPairs (λ m n. m.0 < n.0) (filter_map (module_if_used c objects) (range_with_len a n))
-rising c objects a zero = λ i j d lt l. absurd (omega (arith, l))
-rising c objects a (suc n) = elim (cases_Bool (list_any (is_in a) objects)) [
-  | inl e ↦ rw e (AllPairs-cons (λ m n. m.0 < n.0) (a, module_bytes c objects a) (filter_map (module_if_used c objects) (range_with_len (a + 1) n))
-      (each_listed (λ m. a < m.0) c objects (a + 1) n (λ m low lt used. omega (arith, low))) (rising c objects (a + 1) n))
-  | inr e ↦ rw e (rising c objects (a + 1) n)
-]
+pub greatest_most : (ms : List ℕ) (a n : ℕ) → a ≤ n → All (λ m. (1 ≤ m) × (m ≤ n)) ms → fold max a ms ≤ n
+greatest_most [] a n le all = le
+greatest_most (m ∷ ms) a n le all = greatest_most ms (max a m) n (omega (arith, le, all 0 m (omega arith))) (λ k d lt. all (suc k) d (omega (arith, lt)))
 
 -- ---- sizes
+
+-- a module's bytes are bytes
+each_octets : (c : ℕ) (t : Tree) (objects : List Placed) → ArePlaced t objects → All (λ o. IsBytes (object_bytes c objects o)) objects
+each_octets c t objects placed = λ i d lt.
+    let o = get_or objects i d in
+    elim (option_cases o.spot.content) [
+      | inl h ↦ rw h.1 (file_octets (key_bytes o.key) h.0 (four_octets o.key) refl ((each_valid t objects placed i d lt).bytes h.0 h.1))
+      | inr h ↦ rw h (folder_octets (folder_kind_of o.spot.path) (key_bytes o.key) (entries_of c objects o.spot.number) (four_octets o.key) refl (are_entries c t objects placed o.spot.number)
+          (each_entry (λ w. IsBytes w.name × IsBytes w.location.key) c t objects placed (λ q name id. (name.in_byte, four_octets q.key)) o.spot.number))
+    ]
+
+module_octets : (c : ℕ) (t : Tree) (objects : List Placed) → ArePlaced t objects → (m : ℕ) → IsBytes (module_bytes c objects m)
+module_octets c t objects placed m =
+    flat_octets (object_bytes c objects) (filter (is_in m) objects) (All-filter (is_in m) (λ o. IsBytes (object_bytes c objects o)) objects (each_octets c t objects placed))
 
 -- what lies in a module, against its sum and its number of objects
 piece_sum : (f : Placed → ℕ) (m : ℕ) (os : List Placed) → sum_by f (filter (is_in m) os) ≡ sum_in (zip (map (λ o. o.module_id) os) (map f os)) m
 piece_sum f m [] = refl
-piece_sum f m (o ∷ os) =
-    let rest = piece_sum f m os in
-    let more = sum_by-cons (λ e. cond (e.0 == m) e.1 0) (o.module_id, f o) (zip (map (λ q. q.module_id) os) (map f os)) in
-    elim (cases_Bool (o.module_id == m)) [ inl e ↦ rw (more, e) (omega (arith, rest, sum_by-cons f o (filter (is_in m) os))) | inr e ↦ rw (more, e) (omega (arith, rest)) ]
+piece_sum f m (o ∷ os) = grind (arith, common_steps, nat_tests, piece_sum f m os)
 
 piece_count : (m : ℕ) (os : List Placed) → length (filter (is_in m) os) ≡ count_by (λ k. k == m) (map (λ o. o.module_id) os)
-piece_count m [] = refl
-piece_count m (o ∷ os) =
-    let rest = piece_count m os in
-    let more = sum_by-cons (λ k. cond (k == m) 1 0) o.module_id (map (λ q. q.module_id) os) in
-    elim (cases_Bool (o.module_id == m)) [ inl e ↦ rw (more, e) (omega (arith, rest)) | inr e ↦ rw (more, e) (omega (arith, rest)) ]
-
-size_small : (spots : List Spot) (s : Spot) → ((b : Bytes) → s.content ≡ Some b → length b ≤ 16777216) → is_large_folder spots s ≡ false → size_of spots s ≤ 16777260
-size_small spots s sized fits = elim (option_cases s.content) [
-  | inl h ↦ let n : size_of spots s ≡ 44 + length h.0 = rw h.1 refl in omega (arith, n, sized h.0 h.1)
-  | inr h ↦ omega (arith, folder_small spots s h fits)
-]
+piece_count m os = length-filter (is_in m) os ∙ sym (fold-map (λ s k. s + cond (k == m) 1 0) (λ o. o.module_id) 0 os)
 
 each_small : (c : ℕ) (t : Tree) (objects : List Placed) → ArePlaced t objects → All (λ o. length (object_bytes c objects o) ≤ 16777260) objects
-each_small c t objects placed =
-    let all = spots_of t in
-    let small : All (λ n. n ≤ 16777260) (sizes_of t) = All-map (λ n. n ≤ 16777260) (size_of all) all (λ k d lt. size_small all (get_or all k d) (all_valid t placed.tree k d lt).small ((within_limits t placed.within).folders k d lt)) in
-    all_unmap (λ n. n ≤ 16777260) (λ o. length (object_bytes c objects o)) objects (subst (All (λ n. n ≤ 16777260)) (sym (lengths c t objects placed)) small)
+each_small c t objects placed = λ i d lt. elim (option_cases (get_or objects i d).spot.content) [
+  | inl h ↦ let size = (each_valid t objects placed i d lt).small h.0 h.1 in rw h.1 (omega (arith, size))
+  | inr h ↦ let size = small_folders c t objects placed i d lt h in omega (arith, size)
+]
 
 module_size : (c : ℕ) (t : Tree) (objects : List Placed) → ArePlaced t objects → (m : ℕ) → length (module_bytes c objects m) ≤ 16842752
 module_size c t objects placed m =
@@ -76,33 +57,39 @@ module_size c t objects placed m =
       | inr few ↦ omega (arith, is, few, piece_count m objects, sum_by-le f 16777260 (filter (is_in m) objects) (All-filter (is_in m) (λ o. f o ≤ 16777260) objects (each_small c t objects placed)))
     ]
 
--- the sizes of the objects from a module on
-abbrev high : (Placed → ℕ) → ℕ → List Placed → ℕ
-high f a os = sum_by (λ o. cond (nat_le a o.module_id) (f o) 0) os
+-- ---- modules by rising id
 
-piece_high : (g : Placed → Bytes) (a : ℕ) (os : List Placed) → length (flat_map g (filter (is_in a) os)) + high (λ o. length (g o)) (a + 1) os ≡ high (λ o. length (g o)) a os
-piece_high g a [] = refl
-piece_high g a (o ∷ os) =
-    let rest = piece_high g a os in
-    let here = sum_by-cons (λ q. cond (nat_le a q.module_id) (length (g q)) 0) o os in
-    let above = sum_by-cons (λ q. cond (nat_le (a + 1) q.module_id) (length (g q)) 0) o os in
-    elim (cases_eq o.module_id a) [
-      | inl is ↦ rw (here, above, eq-eqb o.module_id a is, lt-leb (a + 1) o.module_id (omega (arith, is)), le-leb a o.module_id (omega (arith, is))) (omega (arith, rest, length-append (g o) (flat_map g (filter (is_in a) os))))
-      | inr ne ↦ rw (here, above, ne_eqb o.module_id a ne) (elim (cases_lt o.module_id a) [
-        | inl low ↦ rw (lt-leb (a + 1) o.module_id (omega (arith, low)), lt-leb a o.module_id low) (omega (arith, rest))
-        | inr up ↦ rw (le-leb (a + 1) o.module_id (omega (arith, up, ne)), le-leb a o.module_id up) (omega (arith, rest))
-      ])
-    ]
+-- the object lies in this module or a later one
+abbrev is_from : ℕ → Placed → Bool
+is_from m o = nat_le m o.module_id
 
-total_high : (c : ℕ) (objects : List Placed) (a n : ℕ) → sum_by (λ m. length m.1) (filter_map (module_if_used c objects) (range_with_len a n)) ≤ high (λ o. length (object_bytes c objects o)) a objects
-total_high c objects a zero = omega arith
-total_high c objects a (suc n) =
-    let h = total_high c objects (a + 1) n in
-    let piece = piece_high (object_bytes c objects) a objects in
+part : (g : Placed → Bytes) (m : ℕ) (os : List Placed) → length (flat_map g (filter (is_in m) os)) + sum_by (λ o. length (g o)) (filter (is_from (m + 1)) os) ≡ sum_by (λ o. length (g o)) (filter (is_from m) os)
+part g m [] = refl
+part g m (o ∷ os) = grind (arith, common_steps, nat_tests, part g m os)
+
+-- the modules of so many ids from one on
+pub record AreListed (c : ℕ) (objects : List Placed) (a n : ℕ) (layout : Layout) : Type 0 where
+  pub rising : AllPairs (λ m n. m.0 < n.0) layout
+  pub each : All (λ m. (a ≤ m.0) × (m.0 < a + n) × (m.1 ≡ module_bytes c objects m.0)) layout
+  pub total : sum_by (λ m. length m.1) layout ≤ sum_by (λ o. length (object_bytes c objects o)) (filter (is_from a) objects)
+
+pub listed : (c : ℕ) (objects : List Placed) (a n : ℕ) → AreListed c objects a n (filter_map (module_if_used c objects) (range_with_len a n))
+listed c objects a zero = record { rising = λ i j d lt l. absurd (omega (arith, l)); each = λ k d lt. absurd (omega (arith, lt)); total = omega arith }
+listed c objects a (suc n) =
+    let h = listed c objects (a + 1) n in
+    let rest = filter_map (module_if_used c objects) (range_with_len (a + 1) n) in
+    let size = part (object_bytes c objects) a objects in
     elim (cases_Bool (list_any (is_in a) objects)) [
-      | inl e ↦ rw e (omega (arith, h, piece, sum_by-cons (λ m. length m.1) (a, module_bytes c objects a) (filter_map (module_if_used c objects) (range_with_len (a + 1) n))))
-      | inr e ↦ rw e (omega (arith, h, piece))
+      | inl e ↦ rw e (record {
+        rising = search (rules, AllPairs-cons, h.rising, h.each);
+        each = search (rules, All-cons, h.each);
+        total = omega (arith, h.total, size, sum_by-cons (λ m. length m.1) (a, module_bytes c objects a) rest);
+      })
+      | inr e ↦ rw e (record { rising = h.rising; each = search (rules, h.each); total = omega (arith, h.total, size) })
     ]
+
+pub layout_listed : (c : ℕ) (objects : List Placed) → AreListed c objects 1 (greatest (map (λ o. o.module_id) objects)) (layout_of c objects)
+layout_listed c objects = listed c objects 1 (greatest (map (λ o. o.module_id) objects))
 
 -- ---- the layout
 
@@ -113,78 +100,51 @@ pub record IsFine (layout : Layout) : Type 0 where
 
 pub fine : (c : ℕ) (t : Tree) (objects : List Placed) → ArePlaced t objects → IsFine (layout_of c objects)
 fine c t objects placed =
-    let top = greatest (map (λ o. o.module_id) objects) in
-    let most : top ≤ GREATEST_ID = greatest_most (map (λ o. o.module_id) objects) GREATEST_ID placed.placement.numbers in
+    let most = greatest_most (map (λ o. o.module_id) objects) 0 GREATEST_ID (omega arith) placed.placement.numbers in
     let f : Placed → ℕ = λ o. length (object_bytes c objects o) in
+    let layout = layout_of c objects in
+    let l = layout_listed c objects in
     let h = the_gateway t objects placed.spots in
     let one = first_one objects h (λ o. o.module_id) placed.placement.first in
-    let first = module_found c objects h.gateway (subst (In h.gateway) (sym h.first) (inl refl)) (omega (arith, one)) in
+    let first = subst (All (λ o. module_in (layout_of c objects) o.module_id ≡ Some (module_bytes c objects o.module_id))) h.first
+    (each_listed_in c objects (each_id t objects placed)) 0 h.gateway (omega arith) in
     record {
       form = record {
-        rising = rising c objects 1 top;
-        from_one = each_listed (λ m. 1 ≤ m.0) c objects 1 top (λ m low lt used. low);
-        ids = each_listed (λ m. m.0 ≤ GREATEST_ID) c objects 1 top (λ m low lt used. omega (arith, lt, most));
-        bytes = each_listed (λ m. IsBytes m.1) c objects 1 top (λ m low lt used. module_octets c objects (each_spot IsValidSpot t objects placed (all_valid t placed.tree)) m);
-        first = λ none. let bad = sym (ap (module_in (layout_of c objects)) (sym one) ∙ first) ∙ none in cc;
+        rising = l.rising;
+        from_one = λ k d lt. (l.each k d lt).0;
+        ids = λ k d lt. omega (arith, (l.each k d lt).1, most);
+        bytes = λ k d lt. subst IsBytes (sym (l.each k d lt).2) (module_octets c t objects placed (get_or layout k d).0);
+        first = λ none. let bad = sym (ap (module_in layout) (sym one) ∙ first) ∙ none in cc;
       };
-      total = omega (arith, total_high c objects 1 top, sum_by-le-sum_by (λ o. cond (nat_le 1 o.module_id) (f o) 0) f objects (λ o. at_most (nat_le 1 o.module_id) (f o)), sum-map f objects, ap sum (lengths c t objects placed), (within_limits t placed.within).total);
-      sizes = each_listed (λ m. length m.1 ≤ 16842752) c objects 1 top (λ m low lt used. module_size c t objects placed m);
-    } where
-      at_most : (b : Bool) (n : ℕ) → cond b n 0 ≤ n
-      at_most true n = omega arith
-      at_most false n = omega arith
-
-pub rises : (layout : Layout) → IsFine layout → IsRising layout
-rises layout fine = record { rising = fine.form.rising; from_one = fine.form.from_one }
-
-few_blocks : (n : ℕ) → n ≤ 16842752 → block_count_of n BLOCK_SIZE ≤ 65536
-few_blocks n le = omega (arith, le, div_ceil_times n BLOCK_SIZE (lit< tt))
+      total = omega (arith, l.total, sum_by-filter_both (is_from 1) (λ o. not (is_from 1 o)) (λ o. refl) f objects, sum-map f objects, ap sum (lengths c t objects placed), (within_limits t placed.within).total);
+      sizes = λ k d lt. subst (λ b. length b ≤ 16842752) (sym (l.each k d lt).2) (module_size c t objects placed (get_or layout k d).0);
+    }
 
 pub lines_of_fine : (layout : Layout) → IsFine layout → AreLines (lines_in layout)
-lines_of_fine layout fine =
-    let line : ℕ × Bytes → ℕ × ℕ = λ m. (m.0, block_count_of (length m.1) BLOCK_SIZE) in
-    let n = length-map layout line in
+lines_of_fine [] fine = absurd (fine.form.first refl)
+lines_of_fine (m ∷ ms) fine =
+    let layout = m ∷ ms in
     record {
-      some = omega (arith, n, some layout fine.form.first);
-      rising = λ i j d lt within.
-          let low = get_or-map line layout i (0, []) d (omega (arith, lt, within, n)) in
-          let high = get_or-map line layout j (0, []) d (omega (arith, within, n)) in
-          omega (arith, ap (λ l. l.0) low, ap (λ l. l.0) high, fine.form.rising i j (0, []) lt (omega (arith, within, n)));
-      ids = All-map (λ l. (1 ≤ l.0) × (l.0 ≤ GREATEST_ID)) line layout (λ k d lt. (fine.form.from_one k d lt, fine.form.ids k d lt));
-      blocks = All-map (λ l. l.1 ≤ 65536) line layout (λ k d lt. few_blocks (length (get_or layout k d).1) (fine.sizes k d lt));
-    } where
-      some : (l : Layout) → module_in l 1 ≢ None → 1 ≤ length l
-      some [] first = absurd (first refl)
-      some (m ∷ ms) first = omega arith
+      some = omega arith;
+      rising = λ i j d lt within. grind (arith, length-map layout line_of, get_or-map line_of layout i (0, []) d, get_or-map line_of layout j (0, []) d, fine.form.rising i j (0, []));
+      ids = All-map (λ l. (1 ≤ l.0) × (l.0 ≤ GREATEST_ID)) line_of layout (λ k d lt. (fine.form.from_one k d lt, fine.form.ids k d lt));
+      blocks = All-map (λ l. l.1 ≤ 65536) line_of layout (λ k d lt. omega (arith, fine.sizes k d lt, div_ceil_times (length (get_or layout k d).1) BLOCK_SIZE (lit< tt)));
+    }
 
 -- ---- the modules as the code goes through their ids
 
 pub fine_as : (c : ℕ) (o : CodeObjects) (layout : Layout) → layout ≡ layout_of c (objects_in o) → AreReady o → IsFine layout
 fine_as c o layout is ready = subst IsFine (sym is) (fine c o.tree (objects_in o) ready.placed)
 
--- the counts are those after the modules that were there
-pub counted : (before there ms at : List Listed) (counts held after : List ℕ) → there ≡ before → at ≡ ms → held ≡ counts → AreMarked (map view_listed there) ms
-    → ((b : Layout) → AreMarked b at → after ≡ counts_after b (map view_listed at) held) → after ≡ counts_after (map view_listed before) (map view_listed ms) counts
-counted before there ms at counts held after et em ec marked are = rw (← et, ← em, ← ec) (are (map view_listed there) (rw em marked))
-
-ids_before : (f : ℕ → Option (ℕ × Bytes)) (k : ℕ) → filter_map f (range_with_len 1 (k + 1)) ≡ filter_map f (range_with_len 1 k) ++ cons_option (f (k + 1)) []
-ids_before f k =
-    let n : k + 1 ≡ suc k = omega arith in
-    let at : 1 + k ≡ k + 1 = omega arith in
-    ap (λ m. filter_map f (range_with_len 1 m)) n ∙ (ap (λ ids. filter_map f ids) (range_more 1 k) ∙ (filter_map-append f (range_with_len 1 k) ((1 + k) ∷ []) ∙ ap (λ j. filter_map f (range_with_len 1 k) ++ cons_option (f j) []) at))
+range_push : (a n k : ℕ) → a + n ≡ k → range_with_len a (n + 1) ≡ range_with_len a n ++ k ∷ []
+range_push a n k e = simp map-id at (map-range_with_len_more (λ i. i) a n k e)
 
 pub ids_more : {A : Type 0} (f : ℕ → Option (ℕ × Bytes)) (v : A → ℕ × Bytes) (k : ℕ) (xs : List A) (x : A) → map v xs ≡ filter_map f (range_with_len 1 k) → Some (v x) ≡ f (k + 1)
     → map v (xs ++ x ∷ []) ≡ filter_map f (range_with_len 1 (k + 1))
-ids_more f v k xs x so_far is = map-append v xs (x ∷ []) ∙ sym (ids_before f k ∙ rw (← is, ← so_far) refl)
+ids_more f v k xs x so_far is = grind (arith, common_steps, filter_map-append, range_push 1 k (k + 1) (omega arith))
 
 pub ids_same : {A : Type 0} (f : ℕ → Option (ℕ × Bytes)) (v : A → ℕ × Bytes) (k : ℕ) (xs : List A) → map v xs ≡ filter_map f (range_with_len 1 k) → None ≡ f (k + 1) → map v xs ≡ filter_map f (range_with_len 1 (k + 1))
-ids_same f v k xs so_far is = sym (ids_before f k ∙ rw (← is, ← so_far) (append-nil (map v xs)))
-
-pub listed_some : (c : ℕ) (objects : List Placed) (id : ℕ) (b : Bytes) → list_any (is_in id) objects ≡ true → b ≡ module_bytes c objects id → Some (id, b) ≡ module_if_used c objects id
-listed_some c objects id b used is = rw (used, is) refl
-
-pub listed_none : (c : ℕ) (objects : List Placed) (id : ℕ) → list_any (is_in id) objects ≡ false → None ≡ module_if_used c objects id
-listed_none c objects id unused = rw unused refl
+ids_same f v k xs so_far is = grind (arith, common_steps, filter_map-append, range_push 1 k (k + 1) (omega arith))
 
 pub all_ids : (c : ℕ) (o : CodeObjects) (k : ℕ) (layout : Layout) → k ≡ greatest (map (λ x. x.«module») o.all.items) → layout ≡ filter_map (module_if_used c (objects_in o)) (range_with_len 1 k) → layout ≡ layout_of c (objects_in o)
-all_ids c o k layout ek is = is ∙ ap (λ m. filter_map (module_if_used c (objects_in o)) (range_with_len 1 m)) (ek ∙ ap greatest (modules_seen o.tree o.all.items))
+all_ids c o k layout ek is = rw (is, ek, modules_seen o.tree o.all.items) refl

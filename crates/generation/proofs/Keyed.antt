@@ -1,7 +1,8 @@
 -- The keys of a generation's objects are apart and small: those that are kept, and those that are free.
-use Rattle.std.proofs.Common.{◌≡◌, ℕ, ◌≢◌, zero, suc, ◌+◌, ◌/◌, ◌%◌, ◌<◌, ◌≤◌, Bool, true, false, not, ◌==◌, List, [], ◌∷◌, length, map, Option, Some, None, refl, sym, ◌∙◌, ap, subst, arith, get_or, inl, inr, ◌-◌, ◌++◌, cond, add-zero, eqb}
-use Rattle.generation.proofs.Words.{All, list_any, range_with_len, filter, find, and_parts, not-true, or_parts, cond_both, cases_Bool, cases_eq, eq-eqb, ne_eqb, false_from_ne_true, same_Some, All-cons, All-head, All-tail, filter-append, same_name, same_name-is, same_name-refl, same_path-is, AreRising, placed_at, old_keys, taken_in, free_keys, fill_keys, keys_of, is_same_spot, key_bytes, Spot, Placed, all_unmap, option_cases}
-use Rattle.generation.proofs.Spotting.{less_differ}
+use Rattle.std.proofs.Common.{◌≡◌, ℕ, ◌≢◌, zero, suc, ◌+◌, ◌/◌, ◌%◌, ◌<◌, ◌≤◌, Bool, true, false, not, ◌==◌, List, [], ◌∷◌, length, map, Option, Some, None, refl, sym, ◌∙◌, ap, subst, arith, get_or, inl, inr, ◌++◌, cond, add-zero}
+use Rattle.generation.proofs.Words.{All, list_any, range_with_len, filter, find, and_parts, not-true, cond_both, cases_Bool, cases_eq, eq-eqb, ne_eqb, false_from_ne_true, same_Some, All-cons, All-head, All-tail, same_name, same_name-is, same_name-refl, same_path-is, AreRising, placed_at, old_keys, taken_in, free_keys, fill_keys, keys_of, is_same_spot, key_bytes, Spot, Placed, all_unmap, option_cases, Contains}
+use Rattle.path_tree.proofs.CallerLemmas.{less_differ}
+use Rattle.std.proofs.lemmas.List.Folds.{list_any_at}
 
 -- each number once
 abbrev pub Distinct : List ℕ → Type 0
@@ -45,40 +46,33 @@ free_distinct test a (suc n) =
     cond_both (test a) (a ∷ rest) rest Distinct (λ _. (free_all (λ j. a ≢ j) test (a + 1) n (λ k l m t e. omega arith), d)) (λ _. d)
 
 not_any : (f : ℕ) (ks : List ℕ) → list_any (λ j. j == f) ks ≡ false → All (λ j. j ≢ f) ks
-not_any f [] e = λ i d lt. absurd (omega arith)
-not_any f (k ∷ ks) e =
-    let h = or_parts (k == f) _ e in
-    All-cons (λ j. j ≢ f) k ks (λ same. let yes = eq-eqb k f same in let none : (k == f) ≡ false = h.0 in cc) (not_any f ks h.1)
+not_any f ks e = λ i d lt same. let yes = list_any_at (λ j. j == f) ks i d lt (eq-eqb (get_or ks i d) f same) in cc
 
 -- ---- kept keys
 
--- what is found passes the test, and is one of all
-pub found_is : {A : Type 0} (P : A → Type 0) (p : A → Bool) (xs : List A) → All P xs → (o : A) → find p xs ≡ Some o → P o × (p o ≡ true)
-found_is P p [] all o e = cc
-found_is P p (x ∷ xs) all o e = elim (cases_Bool (p x)) [
-  | inl h ↦ subst (λ z. P z × (p z ≡ true)) (same_Some x o (rw h at e)) (All-head P x xs all, h)
-  | inr h ↦ found_is P p xs (All-tail P x xs all) o (rw h at e)
+-- what is found is one of all, and passes the test
+pub found_in : {A : Type 0} (p : A → Bool) (xs : List A) (o : A) → find p xs ≡ Some o → Contains xs o × (p o ≡ true)
+found_in p [] o e = cc
+found_in p (x ∷ xs) o e = elim (cases_Bool (p x)) [
+  | inl h ↦ let is = same_Some x o (rw h at e) in ((0, omega arith, is), subst (λ z. p z ≡ true) is h)
+  | inr h ↦ let r = found_in p xs o (rw h at e) in ((suc r.0.0, omega (arith, r.0.1), r.0.2), r.1)
 ]
 
-placed_there : (old : List Placed) (s : Spot) (o : Placed) → placed_at old s ≡ Some o → o.spot.path ≡ s.path
-placed_there old s o e = same_path-is o.spot.path s.path (and_parts _ _ (found_is (λ _. Unit {0}) (λ x. is_same_spot x.spot s) old (λ i d lt. tt) o e).1).0
+pub found_is : {A : Type 0} (P : A → Type 0) (p : A → Bool) (xs : List A) → All P xs → (o : A) → find p xs ≡ Some o → P o × (p o ≡ true)
+found_is P p xs all o e = let found = found_in p xs o e in (subst P found.0.2 (all found.0.0 o found.0.1), found.1)
+
+pub same_there : (a b : Spot) → is_same_spot a b ≡ true → a.path ≡ b.path
+same_there a b e = same_path-is a.path b.path (and_parts _ _ e).0
 
 -- objects with one key are one object
-one_object : (old : List Placed) → Distinct (map (λ x. x.key) old) → (p q : Placed → Bool) (o r : Placed) → find p old ≡ Some o → find q old ≡ Some r → o.key ≡ r.key → o ≡ r
-one_object [] d p q o r ep eq same = cc
-one_object (x ∷ xs) d p q o r ep eq same =
-    let others : All (λ y. x.key ≢ y.key) xs = all_unmap (λ k. x.key ≢ k) (λ y. y.key) xs d.0 in
-    elim (cases_Bool (p x)) [
-      | inl hp ↦ let here = same_Some x o (rw hp at ep) in
-          elim (cases_Bool (q x)) [
-            | inl hq ↦ sym here ∙ same_Some x r (rw hq at eq)
-            | inr hq ↦ absurd ((found_is (λ y. x.key ≢ y.key) q xs others r (rw hq at eq)).0 (ap (λ y. y.key) here ∙ same))
-          ]
-      | inr hp ↦ elim (cases_Bool (q x)) [
-        | inl hq ↦ absurd ((found_is (λ y. x.key ≢ y.key) p xs others o (rw hp at ep)).0 (ap (λ y. y.key) (same_Some x r (rw hq at eq)) ∙ sym same))
-        | inr hq ↦ one_object xs d.1 p q o r (rw hp at ep) (rw hq at eq) same
-      ]
-    ]
+one_object : (old : List Placed) → Distinct (map (λ x. x.key) old) → (o r : Placed) → Contains old o → Contains old r → o.key ≡ r.key → o ≡ r
+one_object [] d o r (i, lt, e) inside same = absurd (omega arith)
+one_object (x ∷ xs) d o r (zero, lt, e) (zero, below, f) same = sym e ∙ f
+one_object (x ∷ xs) d o r (zero, lt, e) (suc j, below, f) same =
+    absurd (all_unmap (λ k. x.key ≢ k) (λ y. y.key) xs d.0 j r (omega arith) (ap (λ y. y.key) e ∙ same ∙ ap (λ y. y.key) (sym f)))
+one_object (x ∷ xs) d o r (suc i, lt, e) (zero, below, f) same =
+    absurd (all_unmap (λ k. x.key ≢ k) (λ y. y.key) xs d.0 i o (omega arith) (ap (λ y. y.key) f ∙ sym same ∙ ap (λ y. y.key) (sym e)))
+one_object (x ∷ xs) d o r (suc i, lt, e) (suc j, below, f) same = one_object xs d.1 o r (i, omega arith, e) (j, omega arith, f) same
 
 kept_all : (P : ℕ → Type 0) (old : List Placed) (spots : List Spot) → ((i : ℕ) (d : Spot) → i < length spots → (o : Placed) → placed_at old (get_or spots i d) ≡ Some o → P o.key)
     → All P (taken_in (old_keys old spots))
@@ -94,8 +88,10 @@ kept_distinct old d (s ∷ ss) rising =
     elim (option_cases (placed_at old s)) [
       | inl f ↦ rw f.1 (
         kept_all (λ j. f.0.key ≢ j) old ss (λ i e lt q found same.
-            let one = one_object old d (λ x. is_same_spot x.spot s) (λ x. is_same_spot x.spot (get_or ss i e)) f.0 q f.1 found same in
-            less_differ s.path (get_or ss i e).path (rising.0 i e lt) (sym (placed_there old s f.0 f.1) ∙ ap (λ x. x.spot.path) one ∙ placed_there old (get_or ss i e) q found)),
+            let at = found_in (λ x. is_same_spot x.spot s) old f.0 f.1 in
+            let there = found_in (λ x. is_same_spot x.spot (get_or ss i e)) old q found in
+            less_differ s.path (get_or ss i e).path (rising.0 i e lt)
+            (sym (same_there f.0.spot s at.1) ∙ ap (λ x. x.spot.path) (one_object old d f.0 q at.0 there.0 same) ∙ same_there q.spot (get_or ss i e) there.1)),
         rest,
       )
       | inr none ↦ rw none rest
@@ -133,9 +129,10 @@ pub range_more : (a n : ℕ) → range_with_len a (suc n) ≡ range_with_len a n
 range_more a zero = ap (λ k. k ∷ []) (sym (add-zero a))
 range_more a (suc n) = ap (λ ks. a ∷ ks) (range_more (a + 1) n ∙ ap (λ k. range_with_len (a + 1) n ++ k ∷ []) (omega arith))
 
-pub free_more : (taken : List ℕ) (k : ℕ) → 2 ≤ k → free_keys taken (k + 1 - 2) ≡ free_keys taken (k - 2) ++ cond (not (list_any (λ j. eqb j k) taken)) (k ∷ []) []
-free_more taken k le =
-    let test : ℕ → Bool = λ k. not (list_any (λ j. eqb j k) taken) in
-    let n : k + 1 - 2 ≡ suc (k - 2) = omega arith in
-    let at : 2 + (k - 2) ≡ k = omega arith in
-    ap (free_keys taken) n ∙ ap (filter test) (range_more 2 (k - 2) ∙ ap (λ j. range_with_len 2 (k - 2) ++ j ∷ []) at) ∙ filter-append test (range_with_len 2 (k - 2)) (k ∷ [])
+-- of marks that say which numbers are taken
+pub free_is : (taken : List ℕ) (marks : List Bool) (a n : ℕ) → ((k : ℕ) → k < a + n → get_or marks k false ≡ list_any (λ j. j == k) taken)
+    → filter (λ k. not (get_or marks k false)) (range_with_len a n) ≡ filter (λ k. not (list_any (λ j. j == k) taken)) (range_with_len a n)
+free_is taken marks a zero known = refl
+free_is taken marks a (suc n) known =
+    let rest = free_is taken marks (a + 1) n (λ k lt. known k (omega (arith, lt))) in
+    λ i. cond (not (known a (omega arith) i)) (a ∷ rest i) (rest i)

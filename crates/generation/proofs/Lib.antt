@@ -1,5 +1,4 @@
 pub mod Words
-pub mod Law
 pub mod Spotting
 pub mod Writing
 pub mod Placing
@@ -14,9 +13,7 @@ pub mod Passing
 pub mod Weighing
 pub mod Keyed
 pub mod Carrying
-pub mod Naming
 pub mod Filling
-pub mod Octets
 pub mod Assembly
 pub mod Sharing
 pub mod CallerLemmas

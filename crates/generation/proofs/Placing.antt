@@ -1,68 +1,55 @@
 -- The objects of a tree after those of another: their keys and modules, their sizes, and what can be placed after them.
-use Rattle.std.proofs.Common.{◌≡◌, ◌||◌, ℕ, zero, suc, ◌+◌, ◌<◌, ◌≤◌, max, Bool, true, false, not, List, [], ◌∷◌, ◌++◌, length, map, Option, Some, None, refl, sym, ◌∙◌, ap, subst, arith, get_or, length-append, ◌==◌, nat_lt, sum, inl, inr}
-use Rattle.generation.proofs.Words.{ne_eqb, eq-eqb, cases_eq, All, find, sum_by, filter, filter_map, flat_map, list_any, range_with_len, fold, slice_get, zip, sum_by-cons, All-cons, All-nil, All-map, length-map, firsts-zip, seconds-zip, same_Some, GREATEST_ID, Bytes, Tree, IsTree, folder_spelling, binding_spelling, bound_tail, bound_kind, FolderKind, Directory, Gateway, cases_Bool, ltb-false, IsPlacement, KeptIsAPlacement, AreObjects, kept_modules, sizes_in, modules_needed, gateway_spot, AreRising, size_of, spots_of, sizes_of, binding_size, binding_rest, is_child, is_large_folder, large_folder, limit_of, or_else, over, Passed, Objects, Total, Modules, placed_all, objects_after, placed_at, is_same_spot, key_in, module_of, modules_for, old_modules, fill_keys, free_keys, taken_in, old_keys, keys_of, written_in, object_bytes, key_bytes, location_of, bound_of, folder_kind_of, group_by, ByFolder, IsBelow, view_spot, view_placed, placed_from, IsSpotIn, IsId, IsWeighed, Weighed, ArePlaced, AreOld, CodeSpot, CodePlaced, Spot, Placed, entries_of, all_unmap, option_cases}
+use Rattle.std.proofs.Common.{◌≡◌, ℕ, suc, ◌+◌, ◌≤◌, Bool, true, false, not, List, [], ◌∷◌, length, map, Option, Some, None, refl, sym, ◌∙◌, ap, subst, arith, get_or, ◌==◌, nat_lt, sum, inl, inr, eqb}
+use Rattle.generation.proofs.Words.{all_kept, written_in, common_steps, nat_tests, IsName, IsEntry, Written, ne_eqb, All, find, sum_by, filter, list_any, range_with_len, slice_get, zip, All-cons, All-nil, All-map, length-map, firsts-zip, seconds-zip, same_Some, GREATEST_ID, Tree, IsTree, cases_Bool, ltb-false, IsPlacement, KeptIsAPlacement, AreObjects, kept_modules, sizes_in, modules_needed, gateway_spot, AreRising, size_of, spots_of, sizes_of, binding_size, is_child, is_large_folder, large_folder, limit_of, or_else, over, Passed, placed_all, objects_after, placed_at, is_same_spot, key_in, module_of, modules_for, old_modules, fill_keys, free_keys, taken_in, old_keys, keys_of, object_bytes, key_bytes, location_of, bound_of, folder_kind_of, view_spot, view_placed, placed_from, IsSpotIn, IsId, IsWeighed, Weighed, ArePlaced, AreOld, CodeSpot, CodePlaced, Spot, Placed, entries_of, all_unmap, option_cases, and_parts, AllPairs, AllPairs-filter, eqb-true}
+use Rattle.std.specs.Set.{is_member}
+use Rattle.std.proofs.lemmas.Simd.{map-map}
+use Rattle.std.proofs.lemmas.Cmp.{nat_eq_equiv}
+use Rattle.std.proofs.lemmas.List.Filters.{length-filter_both}
+use Rattle.std.proofs.lemmas.List.FromFn.{length-range_with_len, get_or-range_with_len}
+use Rattle.std.proofs.lemmas.Map.Keys.{IsDistinct-from_apart}
+use Rattle.std.proofs.lemmas.Map.Made.{is_member-filter, length-le_from_is_member}
 use Rattle.module_packer.specs.Kept.{Placed as Sized}
 use Rattle.generation.proofs.Keyed.{found_is}
-use Rattle.generation.proofs.Writing.{keys_are}
-use Rattle.oc_bytes.specs.Outcome.{cap_at_u64, cap_at_u32}
 use Rattle.biop_object.specs.declared.written.TheConstants.{MOST_FOLDER_SIZE}
-use Rattle.generation.proofs.Numbering.{in_folder}
+use Rattle.biop_object.specs.Objects.{binding_size as written_size}
+use Rattle.biop_object.proofs.CallerLemmas.{folder_length}
+use Rattle.std.proofs.lemmas.Simd.{map-map}
+use Rattle.std.proofs.lemmas.Option.{cond_some}
+use Rattle.generation.proofs.Numbering.{all_valid, IsValidSpot, child_has}
 use Rattle.generation.proofs.Standing.{rising_all}
 
 -- ---- keys
 
--- numbers past one aren't it
-kept_past : (p : ℕ → Bool) (t a n : ℕ) → t < a → length (filter (λ k. not ((t == k) || p k)) (range_with_len a n)) ≡ length (filter (λ k. not (p k)) (range_with_len a n))
-kept_past p t a zero lt = refl
-kept_past p t a (suc n) lt =
-    let rest = kept_past p t (a + 1) n (omega (arith, lt)) in
-    rw (ne_eqb t a (λ e. omega (arith, lt, e))) (elim (cases_Bool (p a)) [ inl h ↦ rw h rest | inr h ↦ rw h (ap suc rest) ])
+-- of so many numbers at most as many aren't free as are taken
+many_free : (taken : List ℕ) (n : ℕ) → n ≤ length (free_keys taken n) + length taken
+many_free taken n =
+    let range = range_with_len 2 n in
+    let had : ℕ → Bool = λ k. list_any (λ j. j == k) taken in
+    let there : (q : ℕ) → is_member eqb (filter had range) q ≡ true → is_member eqb taken q ≡ true = λ q has.
+    (λ i. list_any (λ j. nat_eq_equiv.symm q j i) taken) ∙ (and_parts (is_member eqb range q) (had q) (sym (is_member-filter nat_eq_equiv had q (λ x e. ap had (eqb-true q x e)) range) ∙ has)).1 in
+    let apart : AllPairs (λ j k. (j == k) ≡ false) range = λ i j d lt inside. let n' = length-range_with_len 2 n in
+    ne_eqb _ _ (λ e. omega (arith, lt, inside, n', e, get_or-range_with_len 2 n i d (omega (arith, lt, inside, n')), get_or-range_with_len 2 n j d (omega (arith, inside, n')))) in
+    let few = length-le_from_is_member nat_eq_equiv (filter had range) taken (IsDistinct-from_apart eqb (filter had range) (AllPairs-filter (λ j k. (j == k) ≡ false) had range apart)) there in
+    omega (arith, few, length-filter_both had (λ k. not (had k)) (λ k. refl) range, length-range_with_len 2 n)
 
--- so that one number more takes one at most
-one_lost : (p : ℕ → Bool) (t a n : ℕ) → length (filter (λ k. not (p k)) (range_with_len a n)) ≤ length (filter (λ k. not ((t == k) || p k)) (range_with_len a n)) + 1
-one_lost p t a zero = omega arith
-one_lost p t a (suc n) = elim (cases_eq t a) [
-  | inl is ↦ let past = kept_past p t (a + 1) n (omega (arith, is)) in rw (eq-eqb t a is) (elim (cases_Bool (p a)) [ inl h ↦ rw h (omega (arith, past)) | inr h ↦ rw h (omega (arith, past)) ])
-  | inr ne ↦ let rest = one_lost p t (a + 1) n in rw (ne_eqb t a ne) (elim (cases_Bool (p a)) [ inl h ↦ rw h rest | inr h ↦ rw h (omega (arith, rest)) ])
-]
-
-many_free : (taken : List ℕ) (a n : ℕ) → n ≤ length (filter (λ k. not (list_any (λ j. j == k) taken)) (range_with_len a n)) + length taken
-many_free [] a n = let h : length (filter (λ k. not (list_any (λ j. j == k) [])) (range_with_len a n)) ≡ n = all a n in omega (arith, h) where
-  all : (a n : ℕ) → length (filter (λ (k : ℕ). true) (range_with_len a n)) ≡ n
-  all a zero = refl
-  all a (suc n) = ap suc (all (a + 1) n)
-many_free (t ∷ ts) a n = omega (arith, many_free ts a n, one_lost (λ k. list_any (λ j. j == k) ts) t a n)
-
-nones : List (Option ℕ) → ℕ
-nones [] = 0
-nones (Some k ∷ keys) = nones keys
-nones (None ∷ keys) = suc (nones keys)
-
-nones_rest : (keys : List (Option ℕ)) → nones keys + length (taken_in keys) ≡ length keys
-unfolding nones
-nones_rest [] = refl
-nones_rest (Some k ∷ keys) = omega (arith, nones_rest keys)
-nones_rest (None ∷ keys) = omega (arith, nones_rest keys)
-
-length-filled : (keys : List (Option ℕ)) (free : List ℕ) → nones keys ≤ length free → length (fill_keys keys free) ≡ length keys
-unfolding nones
+length-filled : (keys : List (Option ℕ)) (free : List ℕ) → length keys ≤ length free + length (taken_in keys) → length (fill_keys keys free) ≡ length keys
 length-filled [] free le = refl
-length-filled (Some k ∷ keys) free le = ap suc (length-filled keys free le)
-length-filled (None ∷ keys) [] le = absurd (omega (arith, le))
+length-filled (Some k ∷ keys) free le = ap suc (length-filled keys free (omega (arith, le)))
+length-filled (None ∷ keys) [] le = absurd (omega (arith, le, few_there keys)) where
+  few_there : (keys : List (Option ℕ)) → length (taken_in keys) ≤ length keys
+  few_there [] = omega arith
+  few_there (Some k ∷ keys) = omega (arith, few_there keys)
+  few_there (None ∷ keys) = omega (arith, few_there keys)
 length-filled (None ∷ keys) (k ∷ free) le = ap suc (length-filled keys free (omega (arith, le)))
 
 pub length-keys_of : (old : List Placed) (spots : List Spot) → length (keys_of old spots) ≡ length spots
 length-keys_of old spots =
     let keys = old_keys old spots in
     let n : length keys ≡ length spots = length-map spots _ in
-    let many = many_free (taken_in keys) 2 (length spots) in
-    length-filled keys (free_keys (taken_in keys) (length spots)) (omega (arith, many, n, nones_rest keys)) ∙ n
+    let many = many_free (taken_in keys) (length spots) in
+    length-filled keys (free_keys (taken_in keys) (length spots)) (omega (arith, many, n)) ∙ n
 
 -- ---- objects
-
-pub fold_least : (ms : List ℕ) (a : ℕ) → a ≤ fold max a ms
-fold_least [] a = omega arith
-fold_least (m ∷ ms) a = omega (arith, fold_least ms (max a m))
 
 pub placed_parts : (spots : List Spot) (keys ms : List ℕ) → length keys ≡ length spots → length ms ≡ length spots
     → (map (λ o. o.spot) (placed_all spots keys ms) ≡ spots) × (map (λ o. o.key) (placed_all spots keys ms) ≡ keys) × (map (λ o. o.module_id) (placed_all spots keys ms) ≡ ms)
@@ -86,36 +73,6 @@ placed_valid t (s ∷ ss) [] ms all = λ k d lt. absurd (omega (arith, lt))
 placed_valid t (s ∷ ss) (k ∷ ks) [] all = λ k d lt. absurd (omega (arith, lt))
 placed_valid t (s ∷ ss) (k ∷ ks) (m ∷ ms) all = All-cons (λ o. IsSpotIn t o.spot) (record { spot = s; key = k; «module» = m }) (placed_from ss ks ms) (all 0 s (omega arith)) (placed_valid t ss ks ms (λ i d lt. all (suc i) d (omega (arith, lt))))
 
--- ---- sizes
-
-binding_length : (c : ℕ) (o : Placed)
-    → length (binding_spelling (record { name = o.spot.name; bound = bound_of o.spot.content; location = location_of c o })) ≡ length o.spot.name + binding_rest o.spot.content
-binding_length c o = go o.spot.content where
-  n : Bytes
-  n = o.spot.name
-
-  go : (content : Option Bytes) → length (binding_spelling (record { name = n; bound = bound_of content; location = location_of c o })) ≡ length n + binding_rest content
-  go (Some b) = omega (arith, length-append (n ++ (0 ∷ 4 ∷ bound_kind (bound_of (Some b)))) (bound_tail (bound_of (Some b)) (location_of c o)), length-append n (0 ∷ 4 ∷ bound_kind (bound_of (Some b))))
-  go None = omega (arith, length-append (n ++ (0 ∷ 4 ∷ bound_kind (bound_of None))) (bound_tail (bound_of None) (location_of c o)), length-append n (0 ∷ 4 ∷ bound_kind (bound_of None)))
-
-entries_length : (c folder : ℕ) (objects : List Placed) → length (flat_map binding_spelling (entries_of c objects folder)) ≡ sum_by (binding_size folder) (map (λ o. o.spot) objects)
-entries_length c folder [] = refl
-entries_length c folder (o ∷ os) = go (is_child folder o.spot) refl (entries_length c folder os) ∙ sym (sum_by-cons (binding_size folder) o.spot (map (λ o. o.spot) os)) where
-  go : (b : Bool) → is_child folder o.spot ≡ b → length (flat_map binding_spelling (entries_of c os folder)) ≡ sum_by (binding_size folder) (map (λ o. o.spot) os)
-      → length (flat_map binding_spelling (filter_map (written_in c folder) (o ∷ os))) ≡ binding_size folder o.spot + sum_by (binding_size folder) (map (λ o. o.spot) os)
-  go true e h = rw e (length-append (binding_spelling (record { name = o.spot.name; bound = bound_of o.spot.content; location = location_of c o })) (flat_map binding_spelling (entries_of c os folder))
-      ∙ omega (arith, h, binding_length c o))
-  go false e h = rw e (omega (arith, h))
-
-pub length-object_bytes : (c : ℕ) (objects : List Placed) (o : Placed) → length (object_bytes c objects o) ≡ size_of (map (λ o. o.spot) objects) o.spot
-length-object_bytes c objects o = elim (option_cases o.spot.content) [
-  | inl h ↦ rw h.1 (omega arith)
-  | inr h ↦ rw h (folder_length (folder_kind_of o.spot.path) ∙ ap (λ n. 34 + n) (entries_length c o.spot.number objects))
-] where
-  folder_length : (kind : FolderKind) → length (folder_spelling kind (key_bytes o.key) (entries_of c objects o.spot.number)) ≡ 34 + length (flat_map binding_spelling (entries_of c objects o.spot.number))
-  folder_length Directory = omega arith
-  folder_length Gateway = omega arith
-
 -- ---- limits
 
 find_none : {A : Type 0} (p : A → Bool) (xs : List A) → find p xs ≡ None → All (λ x. p x ≡ false) xs
@@ -128,47 +85,35 @@ pub record Within (t : Tree) : Type 0 where
   pub total : sum (sizes_of t) ≤ 268435456
   pub modules : modules_needed (sizes_of t) ≤ GREATEST_ID
 
-passed_none : (a b : Option Passed) → or_else a b ≡ None → (a ≡ None) × (b ≡ None)
-passed_none (Some p) b e = cc
-passed_none None b e = (refl, e)
-
-over_none : (b : Bool) (p : Passed) → over b p ≡ None → b ≡ false
-over_none true p e = cc
-over_none false p e = refl
-
-no_folder : (f : Option Spot) → large_folder f ≡ None → f ≡ None
-no_folder (Some s) e = cc
-no_folder None e = refl
+none_passed : (a b c : Bool) (f : Option Spot) (p q r : Passed) → or_else (over a p) (or_else (large_folder f) (or_else (over b q) (over c r))) ≡ None
+    → (a ≡ false) × (f ≡ None) × (b ≡ false) × (c ≡ false)
+none_passed false false false None p q r e = (refl, refl, refl, refl)
+none_passed true b c f p q r e = cc
+none_passed false b c (Some s) p q r e = cc
+none_passed false true c None p q r e = cc
+none_passed false false true None p q r e = cc
 
 pub within_limits : (t : Tree) → limit_of t ≡ None → Within t
 within_limits t e =
-    let all = spots_of t in
-    let a = passed_none (over (nat_lt 8192 (length all)) (Objects (cap_at_u32 (length all)))) _ e in
-    let b = passed_none (large_folder (find (is_large_folder all) all)) _ a.1 in
-    let c = passed_none (over (nat_lt 268435456 (sum (sizes_of t))) (Total (cap_at_u64 (sum (sizes_of t))))) _ b.1 in
+    let none = none_passed (nat_lt 8192 (length (spots_of t))) (nat_lt 268435456 (sum (sizes_of t))) (nat_lt GREATEST_ID (modules_needed (sizes_of t))) (find (is_large_folder (spots_of t)) (spots_of t)) _ _ _ e in
     record {
-      few = ltb-false 8192 (length all) (over_none (nat_lt 8192 (length all)) (Objects (cap_at_u32 (length all))) a.0);
-      folders = find_none (is_large_folder all) all (no_folder (find (is_large_folder all) all) b.0);
-      total = ltb-false 268435456 (sum (sizes_of t)) (over_none _ (Total (cap_at_u64 (sum (sizes_of t)))) c.0);
-      modules = ltb-false GREATEST_ID (modules_needed (sizes_of t)) (over_none _ (Modules (cap_at_u64 (modules_needed (sizes_of t)))) c.1);
+      few = ltb-false 8192 (length (spots_of t)) none.0;
+      folders = find_none (is_large_folder (spots_of t)) (spots_of t) none.1;
+      total = ltb-false 268435456 (sum (sizes_of t)) none.2;
+      modules = ltb-false GREATEST_ID (modules_needed (sizes_of t)) none.3;
     }
 
 pub folder_small : (spots : List Spot) (s : Spot) → s.content ≡ None → is_large_folder spots s ≡ false → size_of spots s ≤ 1048576
-folder_small spots s e small = go s.content e small where
-  go : (c : Option Bytes) → c ≡ None → is_large_folder spots (record s { content = c }) ≡ false → size_of spots (record s { content = c }) ≤ 1048576
-  go (Some b) e small = cc
-  go None e small = ltb-false 1048576 _ small
+folder_small spots s e small = rw e (ltb-false 1048576 _ (rw e at small))
 
 -- ---- modules
 
 sizes_are : (old : List Placed) (t : Tree) → sizes_in (zip (sizes_of t) (old_modules old (spots_of t))) ≡ sizes_of t
 sizes_are old t = firsts-zip (sizes_of t) (old_modules old (spots_of t)) (length-map (spots_of t) (λ s. module_of (placed_at old s)) ∙ sym (length-map (spots_of t) (size_of (spots_of t))))
 
-module_found : (P : ℕ → Type 0) (old : List Placed) (s : Spot) → All (λ o. P o.module_id) old → (m : ℕ) → module_of (placed_at old s) ≡ Some m → P m
-module_found P old s all m e = elim (option_cases (placed_at old s)) [
-  | inl h ↦ subst P (same_Some h.0.module_id m (rw h.1 at e)) (found_is (λ o. P o.module_id) (λ o. is_same_spot o.spot s) old all h.0 h.1).0
-  | inr h ↦ let bad = rw h at e in cc
-]
+module_known : (o : Option Placed) → ((x : Placed) → o ≡ Some x → IsId x.module_id) → (m : ℕ) → module_of o ≡ Some m → IsId m
+module_known (Some x) known m e = subst IsId (same_Some x.module_id m e) (known x refl)
+module_known None known m e = cc
 
 pub are_objects : (old : List Placed) (t : Tree) → AreOld old → limit_of t ≡ None → AreObjects GREATEST_ID (zip (sizes_of t) (old_modules old (spots_of t)))
 are_objects old t are limit =
@@ -179,11 +124,12 @@ are_objects old t are limit =
       some = omega arith;
       few = subst (λ sizes. modules_needed sizes ≤ GREATEST_ID) (sym (sizes_are old t)) (within_limits t limit).modules;
       first = are.gateway;
-      old = all_unmap Was (λ (x : Sized). x.1) objects (subst (All Was) (sym seconds) (All-map Was (λ s. module_of (placed_at old s)) (spots_of t) (λ k d lt m e. module_found IsId old (get_or (spots_of t) k d) are.ids m e)));
+      old = all_unmap Was (λ (x : Sized). x.1) objects (subst (All Was) (sym seconds) (All-map Was (λ s. module_of (placed_at old s)) (spots_of t) (λ k d lt.
+          let s = get_or (spots_of t) k d in module_known (placed_at old s) (λ x found. (found_is (λ o. IsId o.module_id) (λ o. is_same_spot o.spot s) old are.ids x found).0))));
     }
 
-pub few_old : (t : Tree) (old : List Placed) (spots : List Spot) (keys : List (Option ℕ)) → limit_of t ≡ None → spots ≡ spots_of t → keys ≡ old_keys old spots → length keys ≤ 8192
-few_old t old spots keys limit es ek = omega (arith, (within_limits t limit).few, ap length ek, length-map spots (λ s. key_in (placed_at old s)), ap length es)
+pub few_old : (t : Tree) (old : List Placed) → limit_of t ≡ None → length (old_keys old (spots_of t)) ≤ 8192
+few_old t old limit = omega (arith, (within_limits t limit).few, length-map (spots_of t) (λ s. key_in (placed_at old s)))
 
 -- where the objects stay or go is a placement
 placement_for : KeptIsAPlacement → (old : List Placed) (t : Tree) → AreOld old → limit_of t ≡ None → IsPlacement GREATEST_ID (sizes_of t) (modules_for old t)
@@ -200,15 +146,14 @@ placed_after law old t tree limit are =
     let parts = after_parts law old t are limit in
     record { tree = tree; within = limit; spots = parts.0; placement = subst (IsPlacement GREATEST_ID (sizes_of t)) (sym parts.2) (placement_for law old t are limit) }
 
-pub placed_is : (old : List Placed) (t : Tree) (w : Weighed) → IsWeighed t w → (had : List (Option ℕ)) (was : List (Option ℕ)) (keys ms : List ℕ) (os : List CodePlaced)
-    → had ≡ old_keys old (map (view_spot t) w.spots.items) → was ≡ old_modules old (map (view_spot t) w.spots.items)
-    → keys ≡ fill_keys had (free_keys (taken_in had) (length had)) → ms ≡ kept_modules GREATEST_ID (zip w.sizes.items was)
-    → os ≡ placed_from w.spots.items keys ms → map (view_placed t) os ≡ objects_after old t
-placed_is old t w weighed had was keys ms os eh ew ek em is =
-    let spots = weighed.spots.each in
-    let keyed : keys ≡ keys_of old (spots_of t) = ek ∙ keys_are old (spots_of t) had (eh ∙ ap (old_keys old) spots) in
-    let moved : ms ≡ modules_for old t = em ∙ (ap (λ n. kept_modules GREATEST_ID (zip n was)) weighed.sizes ∙ ap (λ o. kept_modules GREATEST_ID (zip (sizes_of t) o)) (ew ∙ ap (old_modules old) spots)) in
-    ap (map (view_placed t)) is ∙ (placed_view t w.spots.items keys ms ∙ rw (spots, keyed, moved) refl)
+-- they are what the code makes of the tree's objects, which it sees in its own form
+pub placed_is : (old : List Placed) (t : Tree) (w : Weighed) → IsWeighed t w → let had = old_keys old (map (view_spot t) w.spots.items) in
+    map (view_placed t) (placed_from w.spots.items (fill_keys had (free_keys (taken_in had) (length had))) (kept_modules GREATEST_ID (zip w.sizes.items (old_modules old (map (view_spot t) w.spots.items)))))
+    ≡ objects_after old t
+placed_is old t w weighed =
+    placed_view t w.spots.items _ _
+    ∙ rw (weighed.spots.each, weighed.sizes) (ap (λ n. placed_all (spots_of t) (fill_keys (old_keys old (spots_of t)) (free_keys (taken_in (old_keys old (spots_of t))) n)) (modules_for old t))
+    (length-map (spots_of t) (λ s. key_in (placed_at old s))))
 
 -- what holds of all objects of a tree holds of those that are placed
 pub each_spot : (P : Spot → Type 0) (t : Tree) (objects : List Placed) → ArePlaced t objects → All P (spots_of t) → All (λ o. P o.spot) objects
@@ -216,6 +161,47 @@ each_spot P t objects placed all = all_unmap P (λ o. o.spot) objects (subst (Al
 
 pub each_id : (t : Tree) (objects : List Placed) → ArePlaced t objects → All (λ o. IsId o.module_id) objects
 each_id t objects placed = all_unmap IsId (λ o. o.module_id) objects placed.placement.numbers
+
+pub each_valid : (t : Tree) (objects : List Placed) → ArePlaced t objects → All (λ o. IsValidSpot o.spot) objects
+each_valid t objects placed = each_spot IsValidSpot t objects placed (all_valid t placed.tree)
+
+-- ---- what is written of them
+
+abbrev pub entry_for : ℕ → Placed → Written
+entry_for c o = record { name = o.spot.name; bound = bound_of o.spot.content; location = location_of c o }
+
+-- what holds of a binding of each object that has a name holds of the bindings in each folder
+pub each_entry : (P : Written → Type 0) (c : ℕ) (t : Tree) (objects : List Placed) → ArePlaced t objects
+    → ((o : Placed) → IsName o.spot.name → IsId o.module_id → P (entry_for c o)) → (folder : ℕ) → All P (entries_of c objects folder)
+each_entry P c t objects placed h folder = all_kept P (written_in c folder) objects (λ k d lt w e.
+    let o = get_or objects k d in
+    let is = cond_some (is_child folder o.spot) (entry_for c o) w e in
+    let p = child_has folder o.spot is.0 in
+    subst P is.1 (h o ((each_valid t objects placed k d lt).name p.0 p.1) (each_id t objects placed k d lt)))
+
+pub are_entries : (c : ℕ) (t : Tree) (objects : List Placed) → ArePlaced t objects → (folder : ℕ) → All IsEntry (entries_of c objects folder)
+are_entries c t objects placed = each_entry IsEntry c t objects placed (λ o name id. record { name = (name.at_least, name.at_most); key = refl; listed = id })
+
+entry_sizes : (c folder : ℕ) (os : List Placed) → sum_by written_size (entries_of c os folder) ≡ sum_by (binding_size folder) (map (λ o. o.spot) os)
+entry_sizes c folder [] = refl
+entry_sizes c folder (o ∷ os) = grind (arith, common_steps, nat_tests, entry_sizes c folder os, option_cases o.spot.content)
+
+-- the sizes of the objects are those of the tree
+pub length-object_bytes : (c : ℕ) (t : Tree) (objects : List Placed) → ArePlaced t objects → (o : Placed) → length (object_bytes c objects o) ≡ size_of (spots_of t) o.spot
+length-object_bytes c t objects placed o = elim (option_cases o.spot.content) [
+  | inl h ↦ rw h.1 (omega arith)
+  | inr h ↦ rw (h, ← placed.spots) (folder_length (folder_kind_of o.spot.path) (key_bytes o.key) (entries_of c objects o.spot.number) refl (are_entries c t objects placed o.spot.number)
+      ∙ ap (λ n. 34 + n) (entry_sizes c o.spot.number objects))
+]
+
+pub lengths : (c : ℕ) (t : Tree) (objects : List Placed) → ArePlaced t objects → map (λ o. length (object_bytes c objects o)) objects ≡ sizes_of t
+lengths c t objects placed =
+    (λ i. map (λ o. length-object_bytes c t objects placed o i) objects) ∙ (sym (map-map (size_of (spots_of t)) (λ o. o.spot) objects) ∙ ap (map (size_of (spots_of t))) placed.spots)
+
+pub small_folders : (c : ℕ) (t : Tree) (objects : List Placed) → ArePlaced t objects → All (λ o. o.spot.content ≡ None → length (object_bytes c objects o) ≤ 1048576) objects
+small_folders c t objects placed = λ i d lt none.
+    let fits = each_spot (λ s. is_large_folder (spots_of t) s ≡ false) t objects placed (within_limits t placed.within).folders i d lt in
+    rw (length-object_bytes c t objects placed (get_or objects i d)) (folder_small (spots_of t) (get_or objects i d).spot none fits)
 
 -- the gateway is the first object
 pub record HasGateway (objects : List Placed) : Type 0 where
@@ -245,34 +231,12 @@ old_placed t objects placed =
       gateway = λ m e. same_Some m 1 (sym e ∙ (ap module_of h.found ∙ ap Some (first_one objects h (λ o. o.module_id) placed.placement.first)));
     }
 
--- the sizes of the objects are those of the tree
-pub lengths : (c : ℕ) (t : Tree) (objects : List Placed) → ArePlaced t objects → map (λ o. length (object_bytes c objects o)) objects ≡ sizes_of t
-lengths c t objects placed = go objects ∙ ap (λ ss. map (size_of ss) ss) placed.spots where
-  go : (os : List Placed) → map (λ o. length (object_bytes c objects o)) os ≡ map (size_of (map (λ o. o.spot) objects)) (map (λ o. o.spot) os)
-  go [] = refl
-  go (o ∷ os) = ap (λ n. n ∷ map (λ q. length (object_bytes c objects q)) os) (length-object_bytes c objects o) ∙ ap (λ ns. size_of (map (λ q. q.spot) objects) o.spot ∷ ns) (go os)
-
 -- ---- as the code has them
 
 pub modules_seen : (t : Tree) (objects : List CodePlaced) → map (λ o. o.«module») objects ≡ map (λ o. o.module_id) (map (view_placed t) objects)
-modules_seen t [] = refl
-modules_seen t (o ∷ os) = ap (λ ms. o.«module» ∷ ms) (modules_seen t os)
+modules_seen t objects = sym (map-map (λ o. o.module_id) (view_placed t) objects)
 
 pub folders_small : (c : ℕ) (t : Tree) (os : List CodePlaced) → ArePlaced t (map (view_placed t) os) → All (λ o. o.spot.whole ≡ false → length (object_bytes c (map (view_placed t) os) (view_placed t o)) ≤ MOST_FOLDER_SIZE) os
 folders_small c t os placed = λ k d lt whole.
     let objects = map (view_placed t) os in
-    let o = view_placed t (get_or os k d) in
-    let small = all_unmap (λ (q : Placed). is_large_folder (spots_of t) q.spot ≡ false) (view_placed t) os (each_spot (λ s. is_large_folder (spots_of t) s ≡ false) t objects placed (within_limits t placed.within).folders) k d lt in
-    let is : length (object_bytes c objects o) ≡ size_of (spots_of t) o.spot = length-object_bytes c objects o ∙ ap (λ all. size_of all o.spot) placed.spots in
-    rw is (folder_small (spots_of t) o.spot (rw whole refl) small)
-
--- each stands in a folder among them
-pub all_below : (t : Tree) (os : List CodePlaced) → ArePlaced t (map (view_placed t) os) → All (λ o. IsBelow (length os) (group_by ByFolder o)) os
-all_below t os placed =
-    let n : length (spots_of t) ≡ length os = ap length (sym placed.spots) ∙ (length-map (map (view_placed t) os) (λ o. o.spot) ∙ length-map os (view_placed t)) in
-    all_unmap (λ (o : Placed). IsBelow (length os) o.spot.parent) (view_placed t) os (each_spot (λ s. IsBelow (length os) s.parent) t (map (view_placed t) os) placed
-    (λ i d lt. below (get_or (spots_of t) i d).parent (λ p e. omega (arith, n, (in_folder t placed.tree i d p lt e).0))))
-  where
-    below : (o : Option ℕ) → ((p : ℕ) → o ≡ Some p → p < length os) → IsBelow (length os) o
-    below (Some p) h = h p refl
-    below None h = tt
+    all_unmap (λ (q : Placed). q.spot.content ≡ None → length (object_bytes c objects q) ≤ MOST_FOLDER_SIZE) (view_placed t) os (small_folders c t objects placed) k d lt (rw whole refl)

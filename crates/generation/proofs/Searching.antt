@@ -1,97 +1,75 @@
--- Listed modules, which rise by id, are found by halves, and so are the two places between which those of a group stand.
-use Rattle.std.proofs.Common.{◌≡◌, ℕ, zero, suc, ◌<◌, ◌≤◌, ◌∙◌, true, false, List, [], ◌∷◌, length, map, get_or, Some, None, refl, ap, arith, inl, inr, ◌+◌, ◌-◌, Bool, take, drop, sym, ◌==◌}
-use Rattle.std.specs.Prelude.{nat_lt}
-use Rattle.generation.proofs.Words.{find, option_map, eq-eqb, ne_eqb, ltb-true, ltb-false, cases_eq, cases_lt, cases_Bool, get_or-map, length-map, Bytes, module_in, IsRising, view_listed, Listed, IsPartitionedBy-ltb, filter, groups_rise, group_in, group_of}
-use Rattle.std.specs.List.Sorted.{IsNonDecreasingBy, IsPartitionPoint, IsPartitionedBy}
-use Rattle.std.proofs.lemmas.List.{length-take, length-drop, nil_from_length}
-use Rattle.std.proofs.lemmas.List.Recursion.{found_at, found_nowhere}
+-- Items in the order of a key, which are found by halves: those of a key, the modules of a group, and the module of an id.
+use Rattle.std.proofs.Common.{◌≡◌, ℕ, zero, suc, ◌≤◌, ◌∙◌, ◌-◌, true, false, Bool, not, ◌&&◌, sym, Some, IfSome, List, [], ◌∷◌, length, map, get_or, take, drop, refl, ap, arith, inl, inr, ◌==◌}
+use Rattle.std.specs.Prelude.{nat_lt, nat_le}
+use Rattle.std.specs.List.Sorted.{IsNonDecreasingBy, IsPartitionPoint, IsPartitionedBy, IsStableByKey, ties}
+use Rattle.std.proofs.lemmas.List.Elements.{filter_agree}
+use Rattle.std.specs.Ordering.{is_lt, nat_cmp}
+use Rattle.std.proofs.lemmas.List.{length-drop}
+use Rattle.std.proofs.lemmas.List.Sorted.{IsNonDecreasingBy-take, IsPartitionedBy-leb}
+use Rattle.generation.proofs.Words.{option_map, Layout, AreMarked, IsMarked, same_module, eqb-true, All-tail, cases_eq, cases_Bool, get_or-map, length-map, Bytes, module_in, IsRising, view_listed, Listed, IsPartitionedBy-ltb, filter, groups_rise, group_of, take_all, slice_get, common_steps, nat_tests}
 
--- what stands where no module does
-abbrev pub nothing : Listed
-nothing = record { id = 0; bytes = []; stays = false }
+-- what passes a test stands before a point, and the rest from it on
+abbrev IsPoint : {X : Type 0} → (X → Bool) → List X → ℕ → Type 0
+IsPoint p = IsPartitionPoint (λ x. p x ≡ true) (λ x. p x ≡ false)
 
-id_at : (ms : List Listed) (k : ℕ) (d : Listed) → k < length ms → (get_or (map view_listed ms) k (0, [])).0 ≡ (get_or ms k d).id
-id_at ms k d lt = ap (λ (m : ℕ × Bytes). m.0) (get_or-map view_listed ms k d (0, []) lt)
+parts : {X : Type 0} (p : X → Bool) (xs : List X) (i : ℕ) → i ≤ length xs → IsPoint p xs i → (take i xs ≡ filter p xs) × (drop i xs ≡ filter (λ x. not (p x)) xs)
+parts p [] zero le point = (refl, refl)
+parts p [] (suc i) le point = absurd (omega arith)
+parts p (x ∷ xs) zero le point =
+    let h = parts p xs 0 (omega arith) (λ k d low lt. absurd (omega arith), λ k d low lt. point.1 (suc k) d (omega arith) (omega arith)) in
+    rw (point.1 0 x (omega arith) (omega arith)) (h.0, ap (λ l. x ∷ l) h.1)
+parts p (x ∷ xs) (suc i) le point =
+    let h = parts p xs i (omega arith) (λ k d low lt. point.0 (suc k) d (omega arith) (omega arith), λ k d low lt. point.1 (suc k) d (omega arith) (omega arith)) in
+    rw (point.0 0 x (omega arith) (omega arith)) (ap (λ l. x ∷ l) h.0, h.1)
+
+both : {X : Type 0} (n : X → ℕ) (k : ℕ) (xs : List X) → filter (λ x. not (nat_lt (n x) k)) (filter (λ x. nat_le (n x) k) xs) ≡ filter (λ x. n x == k) xs
+both n k [] = refl
+both n k (x ∷ xs) = grind (arith, nat_tests, common_steps, both n k xs)
+
+-- the items of a key stand between two points
+pub of_key_is : {X : Type 0} (n : X → ℕ) (k : ℕ) (xs : List X) (end first : ℕ) → IsNonDecreasingBy n xs → end ≤ length xs → first ≤ length (take end xs)
+    → (IsPartitionedBy (λ x. nat_le (n x) k) xs → IsPoint (λ x. nat_le (n x) k) xs end)
+    → (IsPartitionedBy (λ x. nat_lt (n x) k) (take end xs) → IsPoint (λ x. nat_lt (n x) k) (take end xs) first)
+    → take (length (take end xs) - first) (drop first (take end xs)) ≡ filter (λ x. n x == k) xs
+of_key_is n k xs end first up within inside low high =
+    let up_to = take end xs in
+    take_all (length up_to - first) (drop first up_to) (omega (arith, length-drop first up_to))
+    ∙ ((parts (λ x. nat_lt (n x) k) up_to first inside (high (IsPartitionedBy-ltb n up_to k (IsNonDecreasingBy-take n end xs up)))).1
+    ∙ (ap (filter (λ x. not (nat_lt (n x) k))) (parts (λ x. nat_le (n x) k) xs end within (low (IsPartitionedBy-leb n xs k up))).0 ∙ both n k xs))
+
+-- a stable sort keeps the items of a key in their order
+tie_is : (a b : ℕ) → not (is_lt (nat_cmp a b)) && not (is_lt (nat_cmp b a)) ≡ (b == a)
+tie_is a b = grind (arith, nat_tests)
+
+pub stable_at : {X : Type 0} (n : X → ℕ) (xs ys : List X) → IsStableByKey n nat_cmp xs ys → (x : X) → filter (λ y. n y == n x) ys ≡ filter (λ y. n y == n x) xs
+stable_at {X} n xs ys stable x =
+    let same : (zs : List X) → filter (ties (λ y z. is_lt (nat_cmp (n y) (n z))) x) zs ≡ filter (λ y. n y == n x) zs = filter_agree _ (λ y. n y == n x) (λ y. tie_is (n x) (n y)) in
+    sym (same ys) ∙ (stable x ∙ same xs)
+
+-- ---- modules, which rise by id
 
 pub ids_up : (ms : List Listed) → IsRising (map view_listed ms) → IsNonDecreasingBy (λ l. l.id) ms
 ids_up ms is i j d le inside = elim (cases_eq i j) [
   | inl same ↦ omega (arith, ap (λ k. (get_or ms k d).id) same)
-  | inr ne ↦ omega (arith, is.rising i j (0, []) (omega (arith, le, ne)) (omega (arith, length-map ms view_listed, inside)), id_at ms i d (omega (arith, le, inside)), id_at ms j d inside)
+  | inr ne ↦ omega (arith, is.rising i j (view_listed d) (omega (arith, le, ne)) (omega (arith, length-map ms view_listed, inside)), ap (λ (m : ℕ × Bytes). m.0) (get_or-map view_listed ms i d (view_listed d) (omega (arith, le, inside))), ap (λ (m : ℕ × Bytes). m.0) (get_or-map view_listed ms j d (view_listed d) inside))
 ]
 
-pub listed_in : (ms : List Listed) (id : ℕ) → module_in (map view_listed ms) id ≡ option_map (λ l. l.bytes) (find (λ l. l.id == id) ms)
-listed_in [] id = refl
-listed_in (m ∷ ms) id = elim (cases_Bool (m.id == id)) [ inl h ↦ rw h refl | inr h ↦ rw h (listed_in ms id) ]
+pub groups_up : (ms : List Listed) → IsRising (map view_listed ms) → IsNonDecreasingBy (λ l. group_of l.id) ms
+groups_up ms is i j d le inside = groups_rise (get_or ms i d).id (get_or ms j d).id (ids_up ms is i j d le inside)
 
--- the place before which a number of the modules is lower, and from which on it isn't
-abbrev pub IsPoint : (Listed → ℕ) → List Listed → ℕ → ℕ → Type 0
-IsPoint f ms n place = IsPartitionPoint (λ l. nat_lt (f l) n ≡ true) (λ l. nat_lt (f l) n ≡ false) ms place
+-- the module of an id, and its mark
+pub listed_first : (ms : List Listed) (id : ℕ) → option_map (λ l. l.bytes) (slice_get (filter (λ l. l.id == id) ms) 0) ≡ module_in (map view_listed ms) id
+listed_first [] id = refl
+listed_first (m ∷ ms) id = elim (cases_Bool (m.id == id)) [ inl h ↦ rw h refl | inr h ↦ rw h (listed_first ms id) ]
 
-low_at : (f : Listed → ℕ) (ms : List Listed) (n place k : ℕ) (d : Listed) → IsPoint f ms n place → k < place → f (get_or ms k d) < n
-low_at f ms n place k d point lt = ltb-true (f (get_or ms k d)) n (point.0 k d (omega arith) lt)
-
-high_at : (f : Listed → ℕ) (ms : List Listed) (n place k : ℕ) (d : Listed) → IsPoint f ms n place → place ≤ k → k < length ms → n ≤ f (get_or ms k d)
-high_at f ms n place k d point le lt = ltb-false (f (get_or ms k d)) n (point.1 k d le lt)
-
-pub module_found_at : (ms : List Listed) (id first : ℕ) (d : Listed) → IsPoint (λ l. l.id) ms id first → first < length ms → (get_or ms first d).id ≡ id
-    → find (λ l. l.id == id) ms ≡ Some (get_or ms first d)
-module_found_at ms id first d point inside e = found_at (find (λ l. l.id == id)) (λ l. l.id == id) Some None refl (λ x xs. refl) ms first d inside
-    (λ k lt. ne_eqb (get_or ms k d).id id (λ same. omega (arith, low_at (λ l. l.id) ms id first k d point lt, same))) (eq-eqb (get_or ms first d).id id e)
-
-pub no_module_at : (ms : List Listed) (id first : ℕ) → IsRising (map view_listed ms) → IsPoint (λ l. l.id) ms id first → (first < length ms → (d : Listed) → (get_or ms first d).id ≡ id → ⊥)
-    → find (λ l. l.id == id) ms ≡ None
-no_module_at ms id first is point other = found_nowhere (find (λ l. l.id == id)) (λ l. l.id == id) Some None refl (λ x xs. refl) ms nothing (λ i inside. ne_eqb (get_or ms i nothing).id id (each i inside)) where
-  each : (i : ℕ) → i < length ms → (get_or ms i nothing).id ≡ id → ⊥
-  each i inside e = elim (cases_lt i first) [
-    | inl below ↦ omega (arith, low_at (λ l. l.id) ms id first i nothing point below, e)
-    | inr past ↦
-        let there : first < length ms = omega (arith, past, inside) in
-        other there nothing (omega (arith, high_at (λ l. l.id) ms id first first nothing point (omega arith) there, ids_up ms is first i nothing past inside, e))
-  ]
-
--- ---- groups
-
-pub groups_parted : (ms : List Listed) (j : ℕ) → IsRising (map view_listed ms) → IsPartitionedBy (λ l. nat_lt (group_of l.id) j) ms
-groups_parted ms j is = IsPartitionedBy-ltb (λ l. group_of l.id) ms j (λ i k d le inside. groups_rise (get_or ms i d).id (get_or ms k d).id (ids_up ms is i k d le inside))
-
--- the first place isn't behind the other
-pub places_in_order : (ms : List Listed) (j first end : ℕ) → IsPoint (λ l. group_of l.id) ms j first → IsPoint (λ l. group_of l.id) ms (j + 1) end → first ≤ length ms → first ≤ end
-places_in_order ms j first end is up_to within = elim (cases_lt end first) [
-  | inl past ↦ absurd (omega (arith, low_at (λ l. group_of l.id) ms j first end nothing is past, high_at (λ l. group_of l.id) ms (j + 1) end end nothing up_to (omega arith) (omega (arith, past, within))))
-  | inr le ↦ le
+pub marked_first : (before : Layout) (ms : List Listed) (id : ℕ) → AreMarked before ms → IfSome (slice_get (filter (λ l. l.id == id) ms) 0) (λ l. l.stays ≡ same_module (module_in before id) (Some l.bytes))
+marked_first before [] id marked = tt
+marked_first before (m ∷ ms) id marked = elim (cases_Bool (m.id == id)) [
+  | inl h ↦ rw h (marked 0 m (omega arith) ∙ ap (λ j. same_module (module_in before j) (Some m.bytes)) (eqb-true m.id id h))
+  | inr h ↦ rw h (marked_first before ms id (All-tail (IsMarked before) m ms marked))
 ]
 
--- those that pass stand together
-cut_kept : (p : Listed → Bool) (ms : List Listed) (first n : ℕ) → ((k : ℕ) → k < first → p (get_or ms k nothing) ≡ false) → ((k : ℕ) → first ≤ k → k < first + n → p (get_or ms k nothing) ≡ true)
-    → ((k : ℕ) → first + n ≤ k → k < length ms → p (get_or ms k nothing) ≡ false) → filter p ms ≡ take n (drop first ms)
-cut_kept p [] first n before inside after = sym (nil_from_length _ (omega (arith, length-take {A = Listed} n (drop first []), length-drop {A = Listed} first [])))
-cut_kept p (m ∷ ms) zero zero before inside after =
-    rw (after 0 (omega arith) (omega arith)) (cut_kept p ms 0 0 (λ k lt. absurd (omega (arith, lt))) (λ k low lt. absurd (omega (arith, lt))) (λ k low lt. after (suc k) (omega arith) (omega (arith, lt))))
-cut_kept p (m ∷ ms) zero (suc n) before inside after = rw (inside 0 (omega arith) (omega arith)) (ap (λ r. m ∷ r)
-    (cut_kept p ms 0 n (λ k lt. absurd (omega (arith, lt))) (λ k low lt. inside (suc k) (omega arith) (omega (arith, lt))) (λ k low lt. after (suc k) (omega (arith, low)) (omega (arith, lt)))))
-cut_kept p (m ∷ ms) (suc first) n before inside after = rw (before 0 (omega arith))
-    (cut_kept p ms first n (λ k lt. before (suc k) (omega (arith, lt))) (λ k low lt. inside (suc k) (omega (arith, low)) (omega (arith, lt))) (λ k low lt. after (suc k) (omega (arith, low)) (omega (arith, lt))))
-
-kept_seen : (j : ℕ) (ms : List Listed) → map view_listed (filter (λ l. group_of l.id == j) ms) ≡ group_in (map view_listed ms) j
-kept_seen j [] = refl
-kept_seen j (l ∷ ls) = elim (cases_Bool (group_of l.id == j)) [ inl e ↦ rw e (ap (λ r. view_listed l ∷ r) (kept_seen j ls)) | inr e ↦ rw e (kept_seen j ls) ]
-
-pub listed_cut_is : (ms : List Listed) (j first end : ℕ) → IsPoint (λ l. group_of l.id) ms j first → IsPoint (λ l. group_of l.id) ms (j + 1) end → first ≤ length ms → end ≤ length ms
-    → map view_listed (take (end - first) (drop first ms)) ≡ group_in (map view_listed ms) j
-listed_cut_is ms j first end is up_to within end_within = ap (map view_listed) (sym (cut_kept (λ l. group_of l.id == j) ms first (end - first) before inside after)) ∙ kept_seen j ms where
-  order : first ≤ end
-  order = places_in_order ms j first end is up_to within
-
-  group : ℕ → ℕ
-  group k = group_of (get_or ms k nothing).id
-
-  before : (k : ℕ) → k < first → (group k == j) ≡ false
-  before k lt = ne_eqb (group k) j (λ e. omega (arith, low_at (λ l. group_of l.id) ms j first k nothing is lt, e))
-
-  inside : (k : ℕ) → first ≤ k → k < first + (end - first) → (group k == j) ≡ true
-  inside k low lt =
-      let end_low : k < end = omega (arith, lt, order) in
-      eq-eqb (group k) j (omega (arith, high_at (λ l. group_of l.id) ms j first k nothing is low (omega (arith, end_low, end_within)), low_at (λ l. group_of l.id) ms (j + 1) end k nothing up_to end_low))
-
-  after : (k : ℕ) → first + (end - first) ≤ k → k < length ms → (group k == j) ≡ false
-  after k low lt = ne_eqb (group k) j (λ e. omega (arith, high_at (λ l. group_of l.id) ms (j + 1) end k nothing up_to (omega (arith, low, order)) lt, e))
+-- what is kept by a test of what is seen
+pub filter_seen : {A B : Type 0} (f : A → B) (p : B → Bool) (xs : List A) → map f (filter (λ x. p (f x)) xs) ≡ filter p (map f xs)
+filter_seen f p [] = refl
+filter_seen f p (x ∷ xs) = elim (cases_Bool (p (f x))) [ inl e ↦ rw e (ap (λ l. f x ∷ l) (filter_seen f p xs)) | inr e ↦ rw e (filter_seen f p xs) ]

@@ -8,7 +8,7 @@ use Rattle.path_tree.specs.Trees.{Tree}
 use Rattle.ior_tap.specs.declared.Location.{Location}
 use Rattle.biop_object.specs.declared.reading.TheConstants.{GATEWAY}
 use Rattle.biop_object.specs.Names.{Layout, module_in}
-use Rattle.biop_object.specs.Objects.{file_spelling, folder_spelling}
+use Rattle.biop_object.specs.Spelled.{Spelled, AFile, AFolder, spelled_bytes}
 use Rattle.biop_object.specs.declared.written.Written.{Written}
 use Rattle.biop_object.specs.declared.written.Bound.{Bound}
 use Rattle.biop_object.specs.declared.written.Bound.TheVariants as bounds
@@ -112,11 +112,15 @@ abbrev pub folder_kind_of : PathNames → FolderKind
 folder_kind_of [] = Gateway
 folder_kind_of (n ∷ ns) = Directory
 
+-- an object as it is to be written
+abbrev pub spelled : ℕ → List Placed → Placed → Spelled
+spelled carousel objects o = go o.spot.content where
+  go : Option Bytes → Spelled
+  go (Some b) = AFile (key_bytes o.key) b
+  go None = AFolder (folder_kind_of o.spot.path) (key_bytes o.key) (entries_of carousel objects o.spot.number)
+
 abbrev pub object_bytes : ℕ → List Placed → Placed → Bytes
-object_bytes carousel objects o = go o.spot.content where
-  go : Option Bytes → Bytes
-  go (Some b) = file_spelling (key_bytes o.key) b
-  go None = folder_spelling (folder_kind_of o.spot.path) (key_bytes o.key) (entries_of carousel objects o.spot.number)
+object_bytes carousel objects o = spelled_bytes (spelled carousel objects o)
 
 abbrev pub greatest : List ℕ → ℕ
 greatest ns = fold max 0 ns

@@ -2,9 +2,7 @@
 use Rattle.std.specs.Prelude.{◌≤◌, ◌<◌, ℕ, [], zero, suc, map, take, get_or, Some, None, cond, List}
 use Rattle.std.specs.List.{All, AllPairs}
 use Rattle.path_tree.specs.Paths.{Bytes, PathNames}
-use Rattle.path_tree.specs.Trees.{Tree}
-use Rattle.path_tree.specs.declared.entry.Entry.{Entry}
-use Rattle.path_tree.specs.declared.entry.Entry.TheVariants as entries
+use Rattle.path_tree.specs.Trees.{Tree, path_at, bytes_at}
 use Rattle.biop_object.specs.Names.{Layout}
 use Rattle.generation.specs.Publication.{Spot as SpotFields}
 use Rattle.generation.specs.Layouts.{GenerationState, Placed as PlacedState}
@@ -13,20 +11,6 @@ use Rattle.generation.specs.declared.objects.Objects.{Objects}
 use Rattle.generation.specs.declared.objects.Placed.{Placed}
 use Rattle.generation.specs.declared.made.Listed.{Listed}
 use Rattle.generation.specs.declared.made.Generation.TheInside.{Inside}
-
-abbrev pub content_in : Entry → Bytes
-content_in (entries.File b) = b
-content_in entries.Folder = []
-
--- an entry by its number, and its path and bytes; a kept folder has none
-abbrev pub item_at : Tree → ℕ → PathNames × Entry
-item_at t i = get_or t i ([], entries.Folder)
-
-abbrev pub path_at : Tree → ℕ → PathNames
-path_at t i = (item_at t i).0
-
-abbrev pub bytes_at : Tree → ℕ → Bytes
-bytes_at t i = content_in (item_at t i).1
 
 -- the last of the first names of a path
 abbrev pub last_of : PathNames → ℕ → Bytes

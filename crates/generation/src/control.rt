@@ -1,5 +1,5 @@
 //! The sections of a generation's items.
-ghost use Rattle.std.specs.Prelude.{◌≡◌, ◌≤◌, ◌<◌, ◌+◌, ◌%◌, ◌++◌, [], length, map, IfOk};
+ghost use Rattle.std.specs.Prelude.{◌≡◌, ◌≤◌, ◌<◌, ◌+◌, ◌%◌, ◌++◌, [], false, length, map, IfOk};
 ghost use Rattle.std.specs.List.{All};
 ghost use Rattle.std.specs.Option.{unwrap_or};
 ghost use Rattle.oc_bytes.specs.Outcome.{MakesList};
@@ -14,7 +14,7 @@ ghost use Rattle.ddb_block.specs.Blocks.{block_of};
 ghost use Rattle.dsi_dii.specs.Controls.{dsi_spelling, dii_spelling, dii_transaction, DiiFields};
 ghost use Rattle.dsi_dii.specs.declared.ModuleLine.{ModuleLine};
 ghost use Rattle.dsi_dii.specs.declared.TheConstants.{LAST_GENERATION, MOST_TOTAL_SIZE};
-ghost use Rattle.module_groups.specs.declared.TheConstants.{MOST_GROUPS};
+ghost use Rattle.module_groups.specs.declared.TheConstants.{GROUP_SIZE, MOST_GROUPS};
 ghost use Rattle.dsmcc_section.specs.declared.TheConstants.{MOST_PAYLOAD};
 
 use crate::groups::group_modules;
@@ -84,7 +84,7 @@ pub(crate) fn dii_section(
     requires number { number ≤ LAST_GENERATION }
     requires group { (1 ≤ group) × (group ≤ MOST_GROUPS) }
     requires rising { IsRising (map view_listed modules.now) }
-    requires sizes { All (λ m. length m.1 ≤ MOST_TOTAL_SIZE) (map view_listed modules.now) }
+    requires sizes { All (λ l. length l.bytes ≤ MOST_TOTAL_SIZE) modules.now }
     ensures spells { IfOk result (λ v. v.items
         ≡ spelling (control_section (dii_transaction number group % 65536) (dii_spelling (record {
           download = carousel;
@@ -95,15 +95,36 @@ pub(crate) fn dii_section(
     ensures framed { IfOk result (λ v. IsFramed v.items) }
 {
     let transaction = TransactionId::dii(number, group);
-    let extension = (transaction.0 % 65536) as u16;
+    let lines = module_lines(alloc, group_modules(modules, group), counts)?;
+    let payload = dii_payload(alloc, carousel, transaction, lines)?;
+    control(alloc, (transaction.0 % 65536) as u16, payload)
+}
+
+/// The payload of the DII that lists modules.
+fn dii_payload(
+    alloc: Global,
+    carousel: u32,
+    transaction: TransactionId,
+    modules: Vec<ModuleLine>,
+) -> Result<Vec<u8>, NoMemory>
+    requires plain { All (λ l. l.compressed ≡ false) modules.items }
+    requires few { length modules.items ≤ GROUP_SIZE }
+    ensures spells { IfOk result (λ v. v.items ≡ dii_spelling (record {
+      download = carousel;
+      block_size = BLOCK_SIZE;
+      transaction = transaction.0;
+      modules = modules.items;
+    })) }
+    ensures short { IfOk result (λ v. length v.items ≤ MOST_PAYLOAD) }
+{
     let dii = Dii {
         download: carousel,
         block_size: BLOCK_SIZE,
         transaction,
-        modules: module_lines(alloc, group_modules(modules, group), counts)?,
+        modules,
     };
     match encode_dii(alloc, &dii) {
-        Ok(payload) => control(alloc, extension, payload),
+        Ok(payload) => Ok(payload),
         Err(DiiFault::NoMemory) => Err(AllocError),
         Err(DiiFault::TooMany) => unreachable!(),
     }
@@ -114,7 +135,7 @@ fn module_lines(
     modules: &[Listed],
     counts: &[u64],
 ) -> Result<Vec<ModuleLine>, NoMemory>
-    requires { All (λ m. length m.1 ≤ MOST_TOTAL_SIZE) (map view_listed modules.now) }
+    requires { All (λ l. length l.bytes ≤ MOST_TOTAL_SIZE) modules.now }
     ensures { MakesList result (dii_lines counts.now (map view_listed modules.now)) }
 {
     let mut lines = Vec::new(alloc);
@@ -169,7 +190,7 @@ pub(crate) fn block_of_module(
     block: u16,
 ) -> Result<Vec<u8>, NoMemory>
     requires rising { IsRising (map view_listed modules.now) }
-    requires sizes { All (λ m. length m.1 ≤ MOST_TOTAL_SIZE) (map view_listed modules.now) }
+    requires sizes { All (λ l. length l.bytes ≤ MOST_TOTAL_SIZE) modules.now }
     ensures spells { MakesList result
         (spelling
         (section_of_block carousel id (count_in counts.now id % 256) block
@@ -230,6 +251,6 @@ fn block_bytes(bytes: &[u8], block: u16) -> &[u8]
     ensures short { length result.now ≤ BLOCK_SIZE }
 {
     let first = (usize::from(block) * BLOCK_BYTES).min(bytes.len());
-    let end = (first + BLOCK_BYTES).min(bytes.len());
-    &bytes[first..end]
+    let rest = &bytes[first..];
+    &rest[..rest.len().min(BLOCK_BYTES)]
 }

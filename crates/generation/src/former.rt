@@ -1,12 +1,14 @@
 //! What objects had in the generation before: their keys and their modules.
 
-ghost use Rattle.std.specs.Prelude.{◌≡◌, ◌≢◌, None, Some, map, drop, IfOk};
+ghost use Rattle.std.specs.Prelude.{◌≡◌, ◌&&◌, None, Some, cond, map, take, IfOk};
 ghost use Rattle.std.specs.List.{All, zip};
 ghost use Rattle.std.specs.Option.{option_map};
+ghost use Rattle.std.specs.Ordering.{is_eq};
 ghost use Rattle.oc_bytes.specs.Outcome.{MakesList};
 ghost use Rattle.generation.specs.Publication.{AreRising};
-ghost use Rattle.generation.specs.Layouts.{old_keys, old_modules, placed_at};
-ghost use Rattle.generation.specs.Inner.Merging.{AreLeft};
+ghost use Rattle.path_tree.specs.Trees.{Tree as TreeFiles};
+ghost use Rattle.generation.specs.Layouts.{key_in as key_of, module_of, old_keys, old_modules, placed_at, same_kind};
+ghost use Rattle.generation.specs.Inner.Merging.{AreBefore};
 ghost use Rattle.generation.specs.View.{view_spot, view_placed, all_placed};
 ghost use Rattle.generation.specs.Inner.View.{IsSpotIn};
 ghost use Rattle.module_packer.specs.Kept.{AreObjects, kept_modules};
@@ -59,8 +61,8 @@ pub(crate) fn former_of(
     Ok(Former { keys, modules })
 }
 
-/// The object of a spot's path and kind among objects in the order of paths, from a place on, and the place of the first
-/// that doesn't come before that path.
+/// The object of a spot's path and kind among objects in the order of paths, and the place of the first that doesn't come
+/// before that path. Those before the place where it begins to look do.
 fn seek(
     old: &[Placed],
     from: usize,
@@ -71,18 +73,17 @@ fn seek(
     requires old { All (λ o. IsSpotIn old_tree.now o.spot) old.now }
     requires rising { AreRising (map (λ o. o.spot) (all_placed old_tree.now old.now)) }
     requires spot { IsSpotIn tree.now spot }
+    requires before { AreBefore old_tree.now (view_spot tree.now spot).path (take from old.now) }
     ensures object { option_map (view_placed old_tree.now) result.0
-        ≡ placed_at (all_placed old_tree.now (drop from old.now)) (view_spot tree.now spot) }
-    ensures left { AreLeft (view_spot tree.now spot).path
-        (all_placed old_tree.now (drop from old.now))
-        (all_placed old_tree.now (drop result.1 old.now)) }
+        ≡ placed_at (all_placed old_tree.now old.now) (view_spot tree.now spot) }
+    ensures before { AreBefore old_tree.now (view_spot tree.now spot).path
+        (take result.1 old.now) }
 {
     for place in from..old.len() {
         let object = old[place];
         match compare(old_tree, object.spot, tree, spot) {
             Ordering::Less => {}
-            Ordering::Equal => return (if_same_kind(object, spot), place),
-            Ordering::Greater => return (None, place),
+            order => return (if_there(order, object, spot), place),
         }
     }
     (None, old.len())
@@ -90,27 +91,29 @@ fn seek(
 
 /// The key of an object, if there is one.
 fn key_in(object: Option<Placed>) -> Option<u32>
-    ensures { result ≡ option_map (λ o. o.key) object }
+    ensures { (t : TreeFiles) → result ≡ key_of (option_map (view_placed t) object) }
 {
-    object.map(|object| object.key)
+    Some(object?.key)
 }
 
 /// The module of an object, if there is one.
 fn module_in(object: Option<Placed>) -> Option<u16>
-    ensures { result ≡ option_map (λ o. o.«module») object }
+    ensures { (t : TreeFiles) → result ≡ module_of (option_map (view_placed t) object) }
 {
-    object.map(|object| object.module)
+    Some(object?.module)
 }
 
-/// An object at a spot's path, where it is of the spot's kind.
-fn if_same_kind(object: Placed, spot: Spot) -> Option<Placed>
-    ensures same { object.spot.whole ≡ spot.whole → result ≡ Some object }
-    ensures other { object.spot.whole ≢ spot.whole → result ≡ None }
+/// An object that stands in this order to a spot's path, where that is the path, and of the spot's kind.
+fn if_there(order: Ordering, object: Placed, spot: Spot) -> Option<Placed>
+    ensures { (t u : TreeFiles)
+        → result
+        ≡ cond (is_eq order
+        && same_kind (view_spot t object.spot).content (view_spot u spot).content)
+        (Some object) None }
 {
-    if object.spot.whole == spot.whole {
-        Some(object)
-    } else {
-        None
+    match (order, object.spot.whole, spot.whole) {
+        (Ordering::Equal, true, true) | (Ordering::Equal, false, false) => Some(object),
+        _ => None,
     }
 }
 

@@ -1,11 +1,12 @@
 //! Which key each object has: its own key of the generation before, or the least number that is free.
 
-ghost use Rattle.std.specs.Prelude.{◌≡◌, ◌==◌, ◌≤◌, ◌<◌, ◌+◌, ℕ, Option, true, false, length, slice_set, get_or, IfOk};
-ghost use Rattle.std.specs.List.{list_any};
+ghost use Rattle.std.specs.Prelude.{◌≡◌, ◌==◌, ◌≤◌, ◌<◌, ◌+◌, ℕ, Option, true, false, length, slice_set, get_or, not, IfOk};
+ghost use Rattle.std.specs.List.{filter, list_any, range_with_len};
 ghost use Rattle.oc_bytes.specs.Outcome.{MakesList};
 ghost use Rattle.generation.specs.Layouts.{taken_in, free_keys, fill_keys};
 ghost use Rattle.generation.specs.declared.limit.TheConstants.{MOST_OBJECTS};
 
+use crate::made::is_on;
 use oc_bytes::NoMemory;
 use std::alloc::Global;
 
@@ -33,13 +34,18 @@ fn free(alloc: Global, taken: &[u32], count: u32) -> Result<Vec<u32>, NoMemory>
     ensures { MakesList result (free_keys taken.now count) }
 {
     let is_taken = marks(alloc, taken, count + 2)?;
-    let mut free = Vec::new(alloc);
-    for key in 2..count + 2 {
-        if !is_taken[key as usize] {
-            free.push(key)?;
-        }
-    }
-    Ok(free)
+    unmarked(alloc, &is_taken, count)
+}
+
+/// The numbers from 2 on whose mark is off, among so many.
+fn unmarked(alloc: Global, marks: &[bool], count: u32) -> Result<Vec<u32>, NoMemory>
+    requires { count ≤ MOST_OBJECTS }
+    ensures { MakesList result
+        (filter (λ k. not (get_or marks.now k false)) (range_with_len 2 count)) }
+{
+    (2..count + 2)
+        .filter(|key| !is_on(marks, *key as usize))
+        .collect(alloc)
 }
 
 /// Of each number below an end, whether it is among these.

@@ -9,6 +9,7 @@ ghost use Rattle.generation.specs.Lawful.{EqualCountsMeanEqualBytes, EqualVersio
 /// there is one at a path exactly where something stands there. A folder is the same object whether it is kept or only
 /// leads on. The number of each is its place among them, and all but the gateway have the number of the folder that they
 /// stand right in.
+#[tactic(auto, using(crate::proofs::Numbering::objects_stand))]
 pub fn objects_are_what_stands()
     ensures { ObjectsAreWhatStands }
 {}
@@ -20,6 +21,7 @@ pub fn objects_are_what_stands()
 ///
 /// It stands on two laws of the crates below: spellings are read back as their objects, and a placement that leaves
 /// objects where they were is a placement.
+#[tactic(auto, using(crate::proofs::Assembly::lawful))]
 pub fn layouts_are_lawful()
     ensures { LayoutsAreLawful }
 {
@@ -29,18 +31,21 @@ pub fn layouts_are_lawful()
 
 /// A generation has the number, the tree, the layout, the counts and the sections that the lists of trees and layouts give,
 /// and its items are just the DSI, the DII of each group that has one and each block of each module.
+#[tactic(auto, using(crate::proofs::Lists::of_the_lists))]
 pub fn generations_are_of_the_lists()
     ensures { GenerationsAreOfTheLists }
 {}
 
 /// Over every list of layouts: two generations that count a module alike list it with the same bytes, however far apart they are. A
 /// module's version is its count modulo 256.
+#[tactic(auto, using(crate::proofs::Counting::equal_counts))]
 pub fn equal_counts_mean_equal_bytes()
     ensures { (layouts : List Layout) → EqualCountsMeanEqualBytes layouts }
 {}
 
 /// Over every list of layouts: two generations fewer than 256 apart that list a module with the same version list it with
 /// the same bytes.
+#[tactic(auto, using(crate::proofs::Counting::law_of_256))]
 pub fn equal_versions_mean_equal_bytes()
     ensures { (layouts : List Layout) → EqualVersionsMeanEqualBytes layouts }
 {}

@@ -23,6 +23,7 @@ mod links;
 mod listing;
 mod made;
 mod objects;
+mod ordered;
 mod spots;
 mod unchanged;
 

@@ -1,12 +1,14 @@
 //! The sizes of objects, and the limits of a generation.
-ghost use Rattle.std.specs.Prelude.{◌≡◌, ◌≤◌, ◌<◌, ◌+◌, List, [], None, Some, length, map, sum, IfOk, Ok, Err};
+ghost use Rattle.std.specs.Prelude.{◌≡◌, ◌≤◌, ◌<◌, ◌+◌, ℕ, List, [], None, Some, length, map, sum, get_or, IfOk, IfSome, Ok, Err};
 ghost use Rattle.std.specs.List.{All, find};
 ghost use Rattle.oc_bytes.specs.Outcome.{Gives, MakesList};
 ghost use Rattle.generation.specs.Limits.{check_of, limit_cause, unless_passed};
 ghost use Rattle.std.specs.Option.{option_map};
 ghost use Rattle.generation.specs.Sizes.{large_size};
-ghost use Rattle.generation.specs.Publication.{Spot as SpotFields, size_of as size_in, is_large_folder, large_folder, binding_rest as rest_of, limit_of};
+ghost use Rattle.generation.specs.Publication.{Spot as SpotFields, size_of as size_in, is_large_folder, large_folder, binding_rest as rest_of, binding_size as size_in_folder, gateway_spot, spots_of, sizes_of, limit_of};
 ghost use Rattle.path_tree.specs.Trees.{Tree, IsTree};
+ghost use Rattle.path_tree.specs.declared.tree.TheConstants.{MOST_CONTENT};
+ghost use Rattle.biop_object.specs.declared.written.TheConstants.{FILE_FRONT, FILE_BINDING};
 ghost use Rattle.generation.specs.View.{view_spot};
 ghost use Rattle.generation.specs.Inner.View.{IsSpotIn, AreSpotsOf, IsWeighed};
 
@@ -113,6 +115,7 @@ pub(crate) struct Weighed {
 pub(crate) fn weigh(alloc: Global, tree: &Tree) -> Result<Weighed, Limit>
     ensures limit { Gives (λ _. 0) limit_cause result (check_of tree.now) }
     ensures weighed { IfOk result (IsWeighed tree.now) }
+    ensures within { IfOk result (λ _. limit_of tree.now ≡ None) }
 {
     let spots = spots(alloc, tree)?;
     if spots.len() > MOST_OBJECTS {
@@ -152,20 +155,37 @@ pub fn large_folder_size(alloc: Global, tree: &Tree) -> Result<Option<u32>, NoMe
         return Ok(None);
     }
     let sizes = sizes(alloc, tree, &spots)?;
-    Ok(first_large(&spots, &sizes))
+    Ok(first_large_size(&spots, &sizes))
 }
 
 /// The size of the first folder that is too large, where these are the sizes of a tree's objects.
-fn first_large(spots: &[Spot], sizes: &[u32]) -> Option<u32>
+fn first_large_size(spots: &[Spot], sizes: &[u32]) -> Option<u32>
     requires { length sizes.now ≤ length spots.now }
     ensures { (t : Tree)
         → sizes.now ≡ map (size_in (map (view_spot t) spots.now)) (map (view_spot t) spots.now)
         → result ≡ option_map (size_in (map (view_spot t) spots.now))
         (find (is_large_folder (map (view_spot t) spots.now)) (map (view_spot t) spots.now)) }
 {
+    match first_large(spots, sizes) {
+        Some(index) => Some(sizes[index]),
+        None => None,
+    }
+}
+
+/// The number of the first folder that is too large, where these are a tree's objects and their sizes.
+fn first_large(spots: &[Spot], sizes: &[u32]) -> Option<usize>
+    requires { length sizes.now ≤ length spots.now }
+    ensures within { IfSome result (λ i. (i < length sizes.now) × (i < length spots.now)) }
+    ensures large { (t : Tree) (all : List SpotFields) → map (view_spot t) spots.now ≡ all
+        → sizes.now ≡ map (size_in all) all
+        → option_map (λ i. get_or all i gateway_spot) result ≡ find (is_large_folder all) all }
+    ensures size { (t : Tree) (all : List SpotFields) → map (view_spot t) spots.now ≡ all
+        → sizes.now ≡ map (size_in all) all → option_map (λ i. get_or sizes.now i 0) result
+        ≡ option_map (size_in all) (find (is_large_folder all) all) }
+{
     for (index, size) in sizes.iter().enumerate() {
         if is_large(spots[index], *size) {
-            return Some(*size);
+            return Some(index);
         }
     }
     None
@@ -174,20 +194,14 @@ fn first_large(spots: &[Spot], sizes: &[u32]) -> Option<u32>
 /// Refuses the first folder that is too large.
 fn check_folders(alloc: Global, tree: &Tree, spots: &[Spot], sizes: &[u32]) -> Result<(), Limit>
     requires spots { AreSpotsOf tree.now spots.now }
-    requires sizes { sizes.now
-        ≡ map (size_in (map (view_spot tree.now) spots.now)) (map (view_spot tree.now) spots.now) }
+    requires sizes { sizes.now ≡ sizes_of tree.now }
     ensures { Gives (λ _. 0) limit_cause result
         (unless_passed
-        (large_folder
-        (find (is_large_folder (map (view_spot tree.now) spots.now))
-        (map (view_spot tree.now) spots.now)))) }
+        (large_folder (find (is_large_folder (spots_of tree.now)) (spots_of tree.now)))) }
 {
-    for (index, size) in sizes.iter().enumerate() {
-        let spot = spots[index];
-        if is_large(spot, *size) {
-            let path = spot_path(alloc, tree, spot)?;
-            return Err(Limit::FolderTooLarge(path));
-        }
+    if let Some(index) = first_large(spots, sizes) {
+        let path = spot_path(alloc, tree, spots[index])?;
+        return Err(Limit::FolderTooLarge(path));
     }
     Ok(())
 }
@@ -205,23 +219,47 @@ fn is_large(spot: Spot, size: u32) -> bool
 fn sizes(alloc: Global, tree: &Tree, spots: &[Spot]) -> Result<Vec<u32>, NoMemory>
     requires spots { AreSpotsOf tree.now spots.now }
     requires few { length spots.now ≤ MOST_OBJECTS }
-    ensures { MakesList result
-        (map (size_in (map (view_spot tree.now) spots.now)) (map (view_spot tree.now) spots.now)) }
+    ensures { MakesList result (sizes_of tree.now) }
 {
     let mut sizes = own_sizes(alloc, tree, spots)?;
-    for spot in spots {
-        if let Some(folder) = spot.parent {
-            sizes[folder] += binding_size(tree, *spot);
-        }
-    }
+    add_bindings(&mut sizes, tree, spots);
     Ok(sizes)
+}
+
+/// Adds each object's binding.
+fn add_bindings(sizes: &mut [u32], tree: &Tree, spots: &[Spot])
+    requires spots { AreSpotsOf tree.now spots.now }
+    requires few { length spots.now ≤ MOST_OBJECTS }
+    requires own { sizes.now ≡ map (size_in []) (map (view_spot tree.now) spots.now) }
+    requires small { All (λ n. n ≤ FILE_FRONT + MOST_CONTENT) sizes.now }
+    ensures { sizes.new ≡ sizes_of tree.now }
+{
+    for spot in spots {
+        add_binding(sizes, tree, *spot);
+    }
+}
+
+/// Adds an object's binding to the size of its folder. The gateway has neither.
+fn add_binding(sizes: &mut [u32], tree: &Tree, spot: Spot)
+    requires tree { IsTree tree.now }
+    requires spot { IsSpotIn tree.now spot }
+    requires folder { (p : ℕ) → spot.parent ≡ Some p → p < length sizes.now }
+    requires room { (k : ℕ) → k < length sizes.now
+        → get_or sizes.now k 0 + 254 + FILE_BINDING < 4294967296 }
+    ensures each { (k : ℕ) → k < length sizes.old
+        → get_or sizes.new k 0 ≡ get_or sizes.old k 0 + size_in_folder k (view_spot tree.now spot) }
+    ensures small { (k : ℕ) → size_in_folder k (view_spot tree.now spot) ≤ 254 + FILE_BINDING }
+{
+    if let Some(folder) = spot.parent {
+        sizes[folder] += binding_size(tree, spot);
+    }
 }
 
 /// The sizes of a tree's objects without bindings.
 fn own_sizes(alloc: Global, tree: &Tree, spots: &[Spot]) -> Result<Vec<u32>, NoMemory>
     requires { All (IsSpotIn tree.now) spots.now }
     ensures sizes { MakesList result (map (size_in []) (map (view_spot tree.now) spots.now)) }
-    ensures small { IfOk result (λ v. All (λ n. n ≤ 16777260) v.items) }
+    ensures small { IfOk result (λ v. All (λ n. n ≤ FILE_FRONT + MOST_CONTENT) v.items) }
 {
     let mut sizes = Vec::with_capacity(alloc, spots.len())?;
     for spot in spots {
@@ -234,7 +272,7 @@ fn own_sizes(alloc: Global, tree: &Tree, spots: &[Spot]) -> Result<Vec<u32>, NoM
 fn own_size(tree: &Tree, spot: Spot) -> u32
     requires { IsSpotIn tree.now spot }
     ensures size { result ≡ size_in [] (view_spot tree.now spot) }
-    ensures small { result ≤ 16777260 }
+    ensures small { result ≤ FILE_FRONT + MOST_CONTENT }
 {
     if spot.whole {
         FILE_FRONT + content_of(tree, spot.entry).len() as u32
@@ -250,7 +288,7 @@ fn binding_size(tree: &Tree, spot: Spot) -> u32
     requires named { 1 ≤ spot.names }
     ensures size { result ≡ length (view_spot tree.now spot).name
         + rest_of (view_spot tree.now spot).content }
-    ensures small { result ≤ 336 }
+    ensures small { result ≤ 254 + FILE_BINDING }
 {
     let rest = if spot.whole {
         FILE_BINDING

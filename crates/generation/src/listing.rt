@@ -75,6 +75,7 @@ fn spot_kind(tree: &Tree, spot: Spot) -> ObjectKind
 }
 
 /// The path of an object. The gateway's is the root, also in a tree in which nothing stands.
+#[tactic(auto, using(crate::proofs::Spotting::path_at_within))]
 pub(crate) fn spot_path(alloc: Global, tree: &Tree, spot: Spot) -> Result<Path, NoMemory>
     requires { IsSpotIn tree.now spot }
     ensures { IfOk result (λ p. p ≡ (view_spot tree.now spot).path) }

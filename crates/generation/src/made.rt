@@ -1,17 +1,17 @@
-ghost use Rattle.std.specs.Prelude.{◌≡◌, ◌==◌, ◌<◌, ◌≤◌, ◌+◌, ◌++◌, ◌∷◌, [], List, ℕ, None, Some, Ok, map, length, get_or, nat_lt, true, false, IfOk, IfSome, IsSome, OnErr};
-ghost use Rattle.std.specs.List.{All, Contains, find};
+ghost use Rattle.std.specs.Prelude.{◌≡◌, ◌<◌, ◌≤◌, ◌+◌, ◌++◌, ◌∷◌, [], List, ℕ, None, Some, Ok, map, length, get_or, true, false, IfOk, IfSome, IsSome, OnErr};
+ghost use Rattle.std.specs.List.{All, Contains};
 ghost use Rattle.std.specs.Option.{option_map};
 ghost use Rattle.oc_bytes.specs.Outcome.{MakesList};
-ghost use Rattle.path_tree.specs.Edits.{apply_all};
+ghost use Rattle.path_tree.specs.Edits.{apply_all, AreAsBefore};
 ghost use Rattle.path_tree.specs.Trees.{Tree};
 ghost use Rattle.biop_object.specs.Names.{Layout, module_in};
 ghost use Rattle.cycle_planner.specs.Cycle.{AreLines};
 ghost use Rattle.dsmcc_section.specs.Sections.{IsFramed};
-ghost use Rattle.generation.specs.Layouts.{GenerationState, first_of, next_of, lines_of, lines_in, items_of, section_of, count_in as count_at, ids_counted as ids, counts_after, one_if_changed, layout_of, module_if_used, objects_after};
+ghost use Rattle.generation.specs.Layouts.{GenerationState, first_of, next_of, lines_of, lines_in, items_of, section_of, count_in as count_at, ids_counted as ids, counts_after, one_if_changed, layout_of, module_bytes as bytes_in, module_if_used, objects_after, same_module};
 ghost use Rattle.generation.specs.Kept.{StandsFor};
 ghost use Rattle.generation.specs.Publication.{limit_of};
 ghost use Rattle.generation.specs.Objects.{object_of};
-ghost use Rattle.generation.specs.Inner.Stays.{AreAsBefore, AreTheirs};
+ghost use Rattle.generation.specs.Inner.Stays.{AreTheirs};
 ghost use Rattle.generation.specs.View.{view_listed, IsRising, all_placed, objects_in};
 ghost use Rattle.generation.specs.Inner.View.{IsWeighed, AreReady, AreOld, IsMarked, AreMarked, IsSpotIn};
 ghost use Rattle.dsi_dii.specs.declared.TheConstants.{LAST_GENERATION, MOST_TOTAL_SIZE};
@@ -23,15 +23,16 @@ use crate::limit::{Publishable, Weighed, measure};
 use crate::links::{By, gather};
 use crate::listing::{Object, list_objects};
 use crate::objects::{Objects, Placed, last_module, module_bytes, place_all};
+use crate::ordered::{Keys, of_key};
 use crate::spots::{Spot, is_equal};
-use crate::unchanged::{modules_that_stay, named_entries};
+use crate::unchanged::modules_that_stay;
 use biop_object::Module;
 use carousel_profile::BLOCK_SIZE;
 use cycle_planner::Item;
 use ddb_block::block_count;
 use module_packer::kept_is_a_placement;
 use oc_bytes::{Blob, NoMemory};
-use path_tree::{Edit, Tree};
+use path_tree::{Edit, Tree, edited_entries};
 use std::alloc::Global;
 use std::marker::Model;
 
@@ -78,6 +79,7 @@ impl Generation {
     /// Generation 0 of a carousel, with the empty tree: the gateway alone, in module 1, and no module counted yet.
     ///
     /// `carousel` is the carousel's id, any 32-bit number. The only refusal is out of memory.
+    #[tactic(auto, using(crate::proofs::Spotting::gateway_valid))]
     pub fn first(alloc: Global, carousel: u32) -> Result<Generation, NoMemory>
         ensures first { IfOk result (λ g. g ≡ first_of carousel) }
         ensures stands { IfOk result (λ g. StandsFor g []) }
@@ -116,7 +118,7 @@ impl Generation {
         ensures exact { IfOk result (λ g. g ≡ next_of self.now tree) }
     {
         let weighed = measure(self.alloc, &tree)?;
-        self.renewed(tree, &weighed, &[])
+        self.renewed(Publishable { tree, weighed }, &[])
     }
 
     /// The generation that `next` makes of a tree that `checked` let pass, whose objects and sizes aren't worked out again.
@@ -127,8 +129,7 @@ impl Generation {
             (trees : List Tree) → StandsFor self.now trees → StandsFor g (trees ++ tree ∷ [])) }
         ensures exact { IfOk result (λ g. g ≡ next_of self.now tree) }
     {
-        let Publishable { tree, weighed } = tree;
-        self.renewed(tree, &weighed, &[])
+        self.renewed(tree, &[])
     }
 
     /// The generation after this one, with the tree that the edits make of this one's.
@@ -144,23 +145,22 @@ impl Generation {
             (trees : List Tree) → StandsFor self.now trees → StandsFor g (trees ++ tree ∷ [])) }
         ensures exact { IfOk result (λ g. g ≡ next_of self.now tree) }
     {
-        let Publishable { tree, weighed } = tree;
-        let named = named_entries(self.alloc, &tree, edits)?;
-        self.renewed(tree, &weighed, &named)
+        let named = edited_entries(self.alloc, tree.tree(), edits)?;
+        self.renewed(tree, &named)
     }
 
     /// The generation after this one. A file of the tree that has a flag which is off is as before.
-    fn renewed(&self, tree: Tree, weighed: &Weighed, flags: &[bool]) -> Result<Generation, NoMemory>
-        requires tree { limit_of tree ≡ None }
-        requires weighed { IsWeighed tree weighed.now }
+    #[tactic(auto, using(crate::proofs::Sharing::are_theirs, crate::proofs::Placing::old_placed))]
+    fn renewed(&self, tree: Publishable, flags: &[bool]) -> Result<Generation, NoMemory>
         requires number { self.now.number < LAST_GENERATION }
         requires flags { AreAsBefore self.now.tree tree flags.now }
         ensures stands { IfOk result (λ g.
             (trees : List Tree) → StandsFor self.now trees → StandsFor g (trees ++ tree ∷ [])) }
         ensures exact { IfOk result (λ g. g ≡ next_of self.now tree) }
     {
+        let Publishable { tree, weighed } = tree;
         let before = &self.objects;
-        let objects = place_tree(self.alloc, &before.all, &before.tree, tree, weighed)?;
+        let objects = place_tree(self.alloc, &before.all, &before.tree, tree, &weighed)?;
         let staying = modules_that_stay(self.alloc, before, &objects, flags)?;
         let modules = modules_of(self.alloc, self.carousel, &objects, &self.modules, &staying)?;
         let counts = counts_next(self.alloc, &modules, &self.counts)?;
@@ -290,8 +290,8 @@ fn place_tree(
     let ids = modules(alloc, &weighed.sizes, &former.modules)?;
     let keys = keys(alloc, &former.keys)?;
     let all = place_all(alloc, &weighed.spots, &keys, &ids)?;
-    let folders = gather(alloc, By::Folder, &all, all.len())?;
-    let modules = gather(alloc, By::Module, &all, usize::from(last_module(&all)) + 1)?;
+    let folders = gather(alloc, By::Folder, &all)?;
+    let modules = gather(alloc, By::Module, &all)?;
     Ok(Objects {
         tree,
         all,
@@ -317,8 +317,7 @@ fn modules_of(
         map view_listed v.items ≡ layout_of carousel (objects_in objects.now)) }
     ensures stays { IfOk result (λ v. AreMarked (map view_listed before.now) v.items) }
     ensures rising { IfOk result (λ v. IsRising (map view_listed v.items)) }
-    ensures sizes { IfOk result (λ v.
-        All (λ m. length m.1 ≤ MOST_TOTAL_SIZE) (map view_listed v.items)) }
+    ensures sizes { IfOk result (λ v. All (λ l. length l.bytes ≤ MOST_TOTAL_SIZE) v.items) }
     ensures lines { IfOk result (λ v. AreLines (lines_in (map view_listed v.items))) }
 {
     let mut modules = Vec::new(alloc);
@@ -350,15 +349,45 @@ fn listed_at(
     if objects.in_module(id).is_empty() {
         return Ok(None);
     }
+    let listed = used_at(alloc, carousel, objects, before, staying, id)?;
+    Ok(Some(listed))
+}
+
+/// The module of an id, whose objects lie in it.
+fn used_at(
+    alloc: Global,
+    carousel: u32,
+    objects: &Objects,
+    before: &[Listed],
+    staying: &[bool],
+    id: u16,
+) -> Result<Listed, NoMemory>
+    requires ready { AreReady objects.now }
+    requires before { IsRising (map view_listed before.now) }
+    requires staying { AreTheirs carousel (objects_in objects.now)
+        (map view_listed before.now) staying.now }
+    ensures listed { IfOk result (λ l.
+        view_listed l ≡ (id, bytes_in carousel (objects_in objects.now) id)) }
+    ensures stays { IfOk result (IsMarked (map view_listed before.now)) }
+{
     if let Some(bytes) = staying_module(before, staying, id) {
-        return Ok(Some(Listed {
-            id,
-            bytes: bytes.share()?,
-            stays: true,
-        }));
+        return shared(id, bytes);
     }
     let bytes = module_bytes(alloc, carousel, objects, id)?;
-    Ok(Some(module_after(alloc, before, id, bytes)?))
+    module_after(alloc, before, id, bytes)
+}
+
+/// The module of an id that shares the bytes of the one before.
+fn shared(id: u16, bytes: &Blob) -> Result<Listed, NoMemory>
+    ensures listed { IfOk result (λ l. view_listed l ≡ (id, bytes.now)) }
+    ensures stays { IfOk result (λ l.
+        (before : Layout) → module_in before id ≡ Some bytes.now → IsMarked before l) }
+{
+    Ok(Listed {
+        id,
+        bytes: bytes.share()?,
+        stays: true,
+    })
 }
 
 /// The module of an id before, if it is known to stay.
@@ -376,7 +405,7 @@ fn staying_module<'a>(before: &'a [Listed], staying: &[bool], id: u16) -> Option
 }
 
 /// Whether a flag is there and on.
-fn is_on(flags: &[bool], place: usize) -> bool
+pub(crate) fn is_on(flags: &[bool], place: usize) -> bool
     ensures { result ≡ get_or flags.now place false }
 {
     place < flags.len() && flags[place]
@@ -395,11 +424,7 @@ fn module_after(
 {
     if let Some(before) = find_module(before, id) {
         if is_equal(before.bytes(), &bytes) {
-            return Ok(Listed {
-                id,
-                bytes: before.share()?,
-                stays: true,
-            });
+            return shared(id, before);
         }
     }
     Ok(Listed {
@@ -423,17 +448,24 @@ pub(crate) fn find_module(modules: &[Listed], id: u16) -> Option<&Blob>
 /// The module of an id among these, which rise by id. It is found by halves.
 fn find_listed(modules: &[Listed], id: usize) -> Option<&Listed>
     requires { IsRising (map view_listed modules.now) }
-    ensures { option_map (λ l. l.now) result ≡ find (λ l. l.id == id) modules.now }
+    ensures bytes { option_map (λ l. l.bytes) (option_map (λ l. l.now) result)
+        ≡ module_in (map view_listed modules.now) id }
+    ensures marked { (before : Layout)
+        → AreMarked before modules.now
+        → IfSome (option_map (λ l. l.now) result) (λ l.
+        l.stays ≡ same_module (module_in before id) (Some l.bytes)) }
 {
-    let first = modules.partition_point(
-        |listed: &Listed| -> bool
-            ensures { result ≡ nat_lt listed.now.id id }
-        { usize::from(listed.id) < id },
-    );
-    if first < modules.len() && usize::from(modules[first].id) == id {
-        Some(&modules[first])
-    } else {
-        None
+    of_key(&ById, modules, id as u128).first()
+}
+
+/// Modules by their ids.
+struct ById;
+
+impl Keys<Listed> for ById {
+    ghost key = { λ _ l. l.id };
+
+    fn key(&self, listed: &Listed) -> u128 {
+        u128::from(listed.id)
     }
 }
 
@@ -489,7 +521,7 @@ pub(crate) fn count_in(counts: &[u64], id: usize) -> u64
 
 /// Each module with its number of blocks.
 fn lines_of_modules(alloc: Global, modules: &[Listed]) -> Result<Vec<(u16, u32)>, NoMemory>
-    requires { All (λ m. length m.1 ≤ MOST_TOTAL_SIZE) (map view_listed modules.now) }
+    requires { All (λ l. length l.bytes ≤ MOST_TOTAL_SIZE) modules.now }
     ensures { MakesList result (lines_in (map view_listed modules.now)) }
 {
     let mut lines = Vec::new(alloc);

@@ -1,5 +1,5 @@
 //! The objects with their keys and modules, and their bytes.
-ghost use Rattle.std.specs.Prelude.{◌≡◌, ◌≤◌, ◌<◌, ◌++◌, length, map, IfOk, OnOk, false};
+ghost use Rattle.std.specs.Prelude.{◌≡◌, ◌≤◌, ◌<◌, ◌+◌, ◌++◌, length, map, IfOk, OnOk, false};
 ghost use Rattle.std.specs.List.{All, filter};
 ghost use Rattle.oc_bytes.specs.Outcome.{MakesList};
 ghost use Rattle.path_tree.specs.Trees.{IsTree};
@@ -7,11 +7,12 @@ ghost use Rattle.generation.specs.Layouts.{location_of, entries_of, object_bytes
 ghost use Rattle.generation.specs.Inner.Linking.{is_of};
 ghost use Rattle.generation.specs.declared.links.By.TheVariants.{Folder, Module};
 ghost use Rattle.generation.specs.View.{view_spot, view_placed, objects_in};
-ghost use Rattle.generation.specs.Inner.View.{IsId, IsSpotIn, placed_from, AreReady, kind_in};
+ghost use Rattle.generation.specs.Inner.View.{IsChildIn, IsSpotIn, placed_from, AreReady, kind_in};
 ghost use Rattle.biop_object.specs.Objects.{folder_spelling, IsEntry};
 ghost use Rattle.biop_object.specs.declared.written.TheConstants.{MOST_FOLDER_SIZE};
 
-use crate::links::members_of;
+use crate::links::By;
+use crate::ordered::of_key;
 use crate::spots::{Spot, content_of, name_of};
 use biop_object::{Bound, FolderKind, ObjectFault, Written, encode_file, encode_folder};
 use ior_tap::{Key, Location};
@@ -40,10 +41,10 @@ pub(crate) fn place_all(
         .iter()
         .zip(keys)
         .zip(modules)
-        .map(|((spot, key), module)| Placed {
+        .map(|((spot, key), id)| Placed {
             spot: *spot,
             key: *key,
-            module: *module,
+            module: *id,
         })
         .collect(alloc)
 }
@@ -62,17 +63,17 @@ fn key_of(alloc: Global, key: u32) -> Result<Key, NoMemory>
 pub(crate) struct Objects {
     pub(crate) tree: Tree,
     pub(crate) all: Vec<Placed>,
-    pub(crate) folders: Vec<Vec<Placed>>,
-    pub(crate) modules: Vec<Vec<Placed>>,
+    pub(crate) folders: Vec<Placed>,
+    pub(crate) modules: Vec<Placed>,
 }
 
 impl Objects {
     /// The objects that stand right in the folder of a number.
     fn in_folder(&self, number: usize) -> &[Placed]
         requires { AreReady self.now }
-        ensures { result.now ≡ filter (is_of Folder number) self.now.all.items }
+        ensures { result.now ≡ filter (is_of Folder (number + 1)) self.now.all.items }
     {
-        members_of(&self.folders, number)
+        of_key(&By::Folder, &self.folders, number as u128 + 1)
     }
 
     /// The objects that lie in a module.
@@ -80,7 +81,7 @@ impl Objects {
         requires { AreReady self.now }
         ensures { result.now ≡ filter (is_of Module id) self.now.all.items }
     {
-        members_of(&self.modules, usize::from(id))
+        of_key(&By::Module, &self.modules, u128::from(id))
     }
 }
 
@@ -117,9 +118,7 @@ fn entries(
 /// The binding of an object other than the gateway.
 fn written(alloc: Global, carousel: u32, tree: &Tree, object: Placed) -> Result<Written, NoMemory>
     requires tree { IsTree tree.now }
-    requires object { IsSpotIn tree.now object.spot }
-    requires named { 1 ≤ object.spot.names }
-    requires listed { IsId object.«module» }
+    requires object { IsChildIn tree.now object }
     ensures valid { IfOk result IsEntry }
     ensures written { IfOk result (λ w.
         w ≡ record {

@@ -1,12 +1,12 @@
 //! The objects of a tree, in order, without a copy of their paths.
-ghost use Rattle.std.specs.Prelude.{◌≡◌, ◌≤◌, ◌<◌, length, map, take, IfOk};
+ghost use Rattle.std.specs.Prelude.{◌≡◌, ◌≤◌, ◌<◌, ◌==◌, ◌&&◌, length, map, take, IfOk};
 ghost use Rattle.std.specs.List.{All};
-ghost use Rattle.path_tree.specs.Paths.{path_cmp, same_name};
-ghost use Rattle.path_tree.specs.Trees.{IsTree};
+ghost use Rattle.path_tree.specs.Paths.{path_cmp, same_name, shared};
+ghost use Rattle.path_tree.specs.Trees.{IsTree, is_a_file, item_at, path_at, bytes_at};
 ghost use Rattle.path_tree.specs.declared.tree.TheConstants.{MOST_CONTENT};
 ghost use Rattle.generation.specs.Publication.{spots_of};
-ghost use Rattle.generation.specs.Inner.Passing.{shared, path_before, spot_at};
-ghost use Rattle.generation.specs.View.{view_spot, item_at, path_at, bytes_at};
+ghost use Rattle.generation.specs.Inner.Passing.{path_before, spot_at};
+ghost use Rattle.generation.specs.View.{view_spot};
 ghost use Rattle.generation.specs.Inner.View.{IsSpotIn};
 
 use oc_bytes::NoMemory;
@@ -59,6 +59,7 @@ pub(crate) fn spots(alloc: Global, tree: &Tree) -> Result<Vec<Spot>, NoMemory>
 }
 
 /// The object of the names of an entry's path up to the one at a depth: the entry itself, or a folder above it.
+#[tactic(auto, using(crate::proofs::Spotting::item_is))]
 fn spot_of(entries: &[(Path, Entry)], at: usize, depth: usize, number: usize, parent: usize) -> Spot
     requires few { depth < MOST_NAMES }
     requires within { at < length entries.now }
@@ -67,14 +68,20 @@ fn spot_of(entries: &[(Path, Entry)], at: usize, depth: usize, number: usize, pa
     ensures spot { view_spot entries.now result
         ≡ spot_at (item_at entries.now at) depth number parent }
 {
-    let (path, entry) = &entries[at];
     Spot {
         entry: at,
         names: depth + 1,
-        whole: path.len() == depth + 1 && entry.is_file(),
+        whole: is_file_of(&entries[at], depth + 1),
         number,
         parent: Some(parent),
     }
+}
+
+/// Whether an entry is a file whose path has so many names.
+fn is_file_of(entry: &(Path, Entry), names: usize) -> bool
+    ensures { result ≡ ((length entry.now.0 == names) && is_a_file entry.now.1) }
+{
+    entry.0.len() == names && entry.1.is_file()
 }
 
 /// With how many names an entry's path begins like the path of the entry before it.
@@ -86,32 +93,20 @@ fn shared_before(entries: &[(Path, Entry)], at: usize) -> usize
     if at == 0 {
         return 0;
     }
-    shared_names(&entries[at - 1].0, &entries[at].0)
+    entries[at - 1].0.shared_names(&entries[at].0)
 }
 
-/// With how many names two paths begin alike.
-fn shared_names(a: &Path, b: &Path) -> usize
-    ensures shared { result ≡ shared a.now b.now }
-    ensures within { result ≤ length b.now }
-{
-    let least = a.len().min(b.len());
-    for i in 0..least {
-        if !is_equal(a.name(i), b.name(i)) {
-            return i;
-        }
-    }
-    least
-}
-
-/// The path of one of a tree's entries.
+/// The path of one of a tree's entries, which has names: an entry that isn't there has none.
+#[tactic(auto, using(crate::proofs::Spotting::item_is))]
 pub(crate) fn path_of(tree: &Tree, entry: usize) -> &Path
-    requires { entry < length tree.now }
+    requires { 1 ≤ length (path_at tree.now entry) }
     ensures { result.now ≡ path_at tree.now entry }
 {
     &tree.entries()[entry].0
 }
 
 /// The bytes of one of a tree's entries; a kept folder has none.
+#[tactic(auto, using(crate::proofs::Spotting::item_is))]
 pub(crate) fn content_of(tree: &Tree, entry: usize) -> &[u8]
     requires entry { entry < length tree.now }
     ensures bytes { result.now ≡ bytes_at tree.now entry }
@@ -150,25 +145,5 @@ pub(crate) fn compare(a_tree: &Tree, a: Spot, b_tree: &Tree, b: Spot) -> Orderin
     if a.names == 0 || b.names == 0 {
         return a.names.cmp(&b.names);
     }
-    compare_fronts(
-        path_of(a_tree, a.entry),
-        a.names,
-        path_of(b_tree, b.entry),
-        b.names,
-    )
-}
-
-/// How the first names of a path stand to the first names of another in the order of paths.
-fn compare_fronts(a: &Path, a_names: usize, b: &Path, b_names: usize) -> Ordering
-    requires left { a_names ≤ length a.now }
-    requires right { b_names ≤ length b.now }
-    ensures { result ≡ path_cmp (take a_names a.now) (take b_names b.now) }
-{
-    for i in 0..a_names.min(b_names) {
-        match a.name(i).cmp(&b.name(i)) {
-            Ordering::Equal => {}
-            decided => return decided,
-        }
-    }
-    a_names.cmp(&b_names)
+    path_of(a_tree, a.entry).compare_first(a.names, path_of(b_tree, b.entry), b.names)
 }

@@ -1,40 +1,19 @@
 //! Which modules stay as they were: those of files that no edit names.
 
-ghost use Rattle.std.specs.Prelude.{◌≡◌, ◌≤◌, ◌<◌, ◌++◌, List, ℕ, Ok, map, true, get_or, IfOk, IfSome};
+ghost use Rattle.std.specs.Prelude.{◌≡◌, ◌≤◌, ◌<◌, ◌++◌, List, ℕ, map, true, get_or, IfOk, IfSome};
 ghost use Rattle.std.specs.List.{All};
-ghost use Rattle.path_tree.specs.Edits.{apply_all};
-ghost use Rattle.path_tree.specs.Trees.{Tree as TreeFiles, IsTree};
+ghost use Rattle.path_tree.specs.Edits.{AreAsBefore};
+ghost use Rattle.path_tree.specs.Trees.{IsTree};
 ghost use Rattle.generation.specs.Layouts.{Placed as PlacedState, object_bytes};
-ghost use Rattle.generation.specs.Inner.Stays.{AreAsBefore, SameModules, bytes_of_all};
+ghost use Rattle.generation.specs.Inner.Stays.{SameModules, bytes_of_all};
 ghost use Rattle.generation.specs.View.{view_placed, objects_in};
 ghost use Rattle.generation.specs.Inner.View.{IsSpotIn, AreReady};
 
 use crate::objects::{Objects, Placed, last_module};
 use crate::spots::compare;
 use oc_bytes::NoMemory;
-use path_tree::{Edit, Tree, others_stay};
+use path_tree::Tree;
 use std::alloc::Global;
-
-/// Of each of a tree's entries, whether one of the edits names its path.
-pub(crate) fn named_entries(
-    alloc: Global,
-    tree: &Tree,
-    edits: &[Edit],
-) -> Result<Vec<bool>, NoMemory>
-    ensures { IfOk result (λ v.
-        (old : TreeFiles)
-        → apply_all old edits.now ≡ Ok tree.now
-        → AreAsBefore old tree.now v.items) }
-{
-    others_stay();
-    let mut named = vec![in alloc; false; tree.entries().len()]?;
-    for edit in edits {
-        if let Some(entry) = tree.find(edit.path()) {
-            named[entry] = true;
-        }
-    }
-    Ok(named)
-}
 
 /// Of each module's id, whether the module has the same objects as before, all of them files that are as before.
 pub(crate) fn modules_that_stay(

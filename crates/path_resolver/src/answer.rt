@@ -31,11 +31,11 @@ impl Model for FileRef {
 
 impl FileRef {
     /// The bytes of a span of the module.
-    pub(crate) fn new(module: &Arc<Module>, span: Span) -> Result<FileRef, NoMemory>
-        requires { span.first + span.length ≤ length (arc_value module.now) }
-        ensures { IfOk result (λ r. r ≡ take span.length (drop span.first (arc_value module.now))) }
+    pub(crate) fn new(home: &Arc<Module>, span: Span) -> Result<FileRef, NoMemory>
+        requires { span.first + span.length ≤ length (arc_value home.now) }
+        ensures { IfOk result (λ r. r ≡ take span.length (drop span.first (arc_value home.now))) }
     {
-        let module = Arc::try_clone(module)?;
+        let module = Arc::try_clone(home)?;
         Ok(FileRef { module, span })
     }
 
@@ -83,11 +83,11 @@ impl Model for FolderRef {
 
 impl FolderRef {
     /// The names of a folder of the module.
-    pub(crate) fn new(module: &Arc<Module>, folder: usize) -> Result<FolderRef, NoMemory>
-        requires { IsSome (bindings_of (arc_value module.now) folder) }
-        ensures { IfOk result (λ r. r ≡ names_of (bindings_of (arc_value module.now) folder)) }
+    pub(crate) fn new(home: &Arc<Module>, folder: usize) -> Result<FolderRef, NoMemory>
+        requires { IsSome (bindings_of (arc_value home.now) folder) }
+        ensures { IfOk result (λ r. r ≡ names_of (bindings_of (arc_value home.now) folder)) }
     {
-        let module = Arc::try_clone(module)?;
+        let module = Arc::try_clone(home)?;
         Ok(FolderRef { module, folder })
     }
 

@@ -103,20 +103,20 @@ fn module_at<'a, H: Holding>(
 }
 
 /// The answer at a location's object, where no name is left.
-fn object_answer(module: &Arc<Module>, location: &Location) -> Result<Answer, NoMemory>
+fn object_answer(home: &Arc<Module>, location: &Location) -> Result<Answer, NoMemory>
     ensures answer { IfOk result (λ a.
-        a ≡ resolving.answer_at_end location.now.module (arc_value module.now)
-        (found_of (arc_value module.now) location.now.key)) }
+        a ≡ resolving.answer_at_end location.now.module (arc_value home.now)
+        (found_of (arc_value home.now) location.now.key)) }
     ensures memory { OnErr result
         (IsTrue
         (is_shared
-        (resolving.answer_at_end location.now.module (arc_value module.now)
-        (found_of (arc_value module.now) location.now.key)))) }
+        (resolving.answer_at_end location.now.module (arc_value home.now)
+        (found_of (arc_value home.now) location.now.key)))) }
 {
     let id = location.module;
-    match module.find(location.key.bytes()) {
-        Found::File(span) => Ok(Answer::File(FileRef::new(module, span)?)),
-        Found::Folder(folder) => Ok(Answer::Folder(FolderRef::new(module, folder)?)),
+    match home.find(location.key.bytes()) {
+        Found::File(span) => Ok(Answer::File(FileRef::new(home, span)?)),
+        Found::Folder(folder) => Ok(Answer::Folder(FolderRef::new(home, folder)?)),
         Found::Other => Ok(Answer::OtherKind(id)),
         Found::Bad(place) => Ok(Answer::Bad(id, place)),
         Found::Missing => Ok(Answer::Dangling(id)),
@@ -154,14 +154,14 @@ fn along(binding: Option<&Binding>) -> Step<'_>
 
 /// Where a name leads from a location's object.
 #[tactic(auto, using(crate::proofs::Finding::folder_goes))]
-fn next_in<'a>(module: &'a Arc<Module>, location: &Location, name: &[u8]) -> Step<'a>
-    ensures { ObjectGoes name.now location.now.module (arc_value module.now)
-        (found_of (arc_value module.now) location.now.key) result }
+fn next_in<'a>(home: &'a Arc<Module>, location: &Location, name: &[u8]) -> Step<'a>
+    ensures { ObjectGoes name.now location.now.module (arc_value home.now)
+        (found_of (arc_value home.now) location.now.key) result }
 {
     let id = location.module;
-    match module.find(location.key.bytes()) {
+    match home.find(location.key.bytes()) {
         Found::File(_) => Step::Ends(Answer::NoSuch),
-        Found::Folder(folder) => along(module.binding(folder, name)),
+        Found::Folder(folder) => along(home.binding(folder, name)),
         Found::Other => Step::Ends(Answer::OtherKind(id)),
         Found::Bad(place) => Step::Ends(Answer::Bad(id, place)),
         Found::Missing => Step::Ends(Answer::Dangling(id)),

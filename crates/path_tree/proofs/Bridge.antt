@@ -5,14 +5,14 @@ use Rattle.std.specs.Ordering.{ordering_then}
 use Rattle.std.specs.declared.cmp.Ordering.{Ordering}
 use Rattle.std.specs.declared.cmp.Ordering.TheVariants.{Less, Equal, Greater}
 use Rattle.path_tree.specs.Paths.{Bytes, PathNames, name_cmp, path_cmp, same_name, is_below}
-use Rattle.path_tree.proofs.Order.{name_total, name_cmp-is, name_cmp-refl, same_name-is, same_name-refl}
+use Rattle.path_tree.proofs.Order.{name_total, name_cmp-is, name_cmp-refl, names_differ, same_name-is, same_name-refl}
 use Rattle.path_tree.specs.Trees.{Tree, IsApart, IsTree, node_at}
 use Rattle.path_tree.specs.declared.entry.Entry.{Entry}
 use Rattle.path_tree.specs.declared.entry.Entry.TheVariants as entries
 use Rattle.path_tree.specs.Nestings.{Nesting, Empty, FileThen, FolderThen, under, mark_of, flat, first_inside, first_made, beside_first, put_before, nested, stands_at, IsAfter, IsKnown, IsNesting}
 use Rattle.path_tree.specs.Laws.{TreesAreNestings}
 use Rattle.path_tree.proofs.Rising.{Item, Apart, Rises, rises_tree}
-use Rattle.path_tree.proofs.Walks.{names_differ, has_first, walk-flat}
+use Rattle.path_tree.proofs.Walks.{has_first, walk-flat}
 
 -- ---- what stands first in a nesting
 

@@ -12,6 +12,7 @@ pub mod Changes
 pub mod Names
 pub mod Named
 pub mod Others
+pub mod Flagged
 pub mod Checked
 pub mod There
 pub mod Counting

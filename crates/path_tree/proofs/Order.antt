@@ -1,16 +1,17 @@
 -- The order of paths, and which lie below which.
-use Rattle.std.proofs.Common.{◌≡◌, ◌⊎◌, ℕ, suc, zero, ◌+◌, ◌<◌, ◌≤◌, min, Bool, true, false, ◌&&◌, [], ◌∷◌, length, drop, get_or, Some, None, cond, refl, sym, ◌∙◌, subst, inl, inr, drop-cons, add-one, arith}
+use Rattle.std.proofs.Common.{◌≡◌, ◌≢◌, ap, ◌⊎◌, ℕ, suc, zero, ◌+◌, ◌<◌, ◌≤◌, min, Bool, true, false, ◌&&◌, [], ◌∷◌, length, drop, get_or, Some, None, cond, refl, sym, ◌∙◌, subst, inl, inr, drop-cons, add-one, arith}
 use Rattle.std.specs.declared.cmp.Ordering.{Ordering}
 use Rattle.std.specs.declared.cmp.Ordering.TheVariants.{Less, Equal, Greater}
-use Rattle.std.specs.Ordering.{nat_cmp, is_eq, ordering_then}
+use Rattle.std.specs.Ordering.{nat_cmp, is_eq, ordering_then, ordering_reverse}
 use Rattle.std.specs.Cmp.{IsTotalOrder}
 use Rattle.std.specs.Cmp.Lexicographic.{same_text}
 use Rattle.std.specs.FinMap.{slice_cmp-IsAntisymmetric}
-use Rattle.std.proofs.lemmas.Cmp.{lists_total, nat_list_cmp_total, nat_list_eq_equiv}
+use Rattle.std.proofs.lemmas.Cmp.{lists_total, lists_equiv, nat_list_cmp_total, nat_list_eq_equiv}
 use Rattle.std.proofs.Math.Bool.{and-false}
 use Rattle.std.proofs.lemmas.List.{drop_all}
+use Rattle.std.proofs.lemmas.Bool.{false_from_ne_true}
 use Rattle.std.proofs.lemmas.Bool.Decides.{nat_tests}
-use Rattle.path_tree.specs.Paths.{Bytes, PathNames, name_cmp, path_cmp, same_name, same_path, is_below, next_name}
+use Rattle.path_tree.specs.Paths.{Bytes, PathNames, name_cmp, path_cmp, same_name, same_path, is_below, next_name, shared}
 
 pub path_total : IsTotalOrder path_cmp
 path_total = lists_total nat_list_cmp_total
@@ -48,6 +49,9 @@ same_path-is (m ∷ ms) (n ∷ ns) e =
 pub same_path-refl : (p : PathNames) → same_path p p ≡ true
 same_path-refl [] = refl
 same_path-refl (n ∷ ns) = rw (same_name-refl n) (same_path-refl ns)
+
+pub same_path-flips : (p q : PathNames) → same_path p q ≡ same_path q p
+same_path-flips = let paths = lists_equiv nat_list_eq_equiv in paths.symm
 
 pub name_cmp-refl : (n : Bytes) → name_cmp n n ≡ Equal
 name_cmp-refl [] = refl
@@ -92,8 +96,25 @@ not_both_less p q e f = let back = path_total.antisymm p q in cc
 names_not_both_less : (m n : Bytes) → name_cmp m n ≡ Less → name_cmp n m ≡ Less → ⊥
 names_not_both_less m n e f = let back = name_total.antisymm m n in cc
 
-names_differ : {m n : Bytes} → name_cmp m n ≡ Less → m ≡ n → ⊥
-names_differ {m} {n} e same = let self : name_cmp m n ≡ Equal = subst (λ (k : Bytes). name_cmp m k ≡ Equal) same (name_cmp-refl m) in cc
+names_apart : {m n : Bytes} → name_cmp m n ≡ Less → m ≢ n
+names_apart {m} {n} e same = let self : name_cmp m n ≡ Equal = subst (λ (k : Bytes). name_cmp m k ≡ Equal) same (name_cmp-refl m) in cc
+
+-- names and paths that differ, by the tests
+pub names_differ : (m n : Bytes) → name_cmp m n ≡ Less → same_name m n ≡ false
+names_differ m n less = false_from_ne_true (same_name m n) (λ e. names_apart less (same_name-is m n e))
+
+pub paths_differ : (p q : PathNames) → p ≢ q → same_path p q ≡ false
+paths_differ p q ne = false_from_ne_true (same_path p q) (λ e. ne (same_path-is p q e))
+
+pub less_differ : (p q : PathNames) → path_cmp p q ≡ Less → p ≢ q
+less_differ p q less same = let self : path_cmp p q ≡ Equal = subst (λ (r : PathNames). path_cmp p r ≡ Equal) same (path_cmp-refl p) in cc
+
+-- a path that stands before another or after it isn't the same
+pub less_not_same : (p q : PathNames) → path_cmp p q ≡ Less → same_path p q ≡ false
+less_not_same p q e = same_path-cmp p q ∙ ap is_eq e
+
+pub more_not_same : (p q : PathNames) → path_cmp q p ≡ Less → same_path p q ≡ false
+more_not_same p q e = same_path-cmp p q ∙ ap is_eq (path_total.antisymm p q ∙ ap ordering_reverse e)
 
 -- what lies below a path stands after it
 pub below-less : (p q : PathNames) → is_below p q ≡ true → path_cmp p q ≡ Less
@@ -117,8 +138,8 @@ below_between (m ∷ ms) (n ∷ ns) (k ∷ ks) b e f =
   where
     go : m ≡ k → is_below ms ks ≡ true → (name_cmp m n ≡ Less) ⊎ ((name_cmp m n ≡ Equal) × (path_cmp ms ns ≡ Less)) → (name_cmp n k ≡ Less) ⊎ ((name_cmp n k ≡ Equal) × (path_cmp ns ks ≡ Less)) → (is_below ms ks ≡ true → path_cmp ms ns ≡ Less → path_cmp ns ks ≡ Less → is_below ms ns ≡ true) → (same_name m n && is_below ms ns) ≡ true
     go same below (inl less) (inl more) rest = absurd (names_not_both_less m n less (subst (λ (x : Bytes). name_cmp n x ≡ Less) (sym same) more))
-    go same below (inl less) (inr more) rest = let is = name_cmp-is n k more.0 in let self = name_cmp-refl m in absurd (names_differ less (same ∙ sym is))
-    go same below (inr less) (inl more) rest = absurd (names_differ (subst (λ (x : Bytes). name_cmp n x ≡ Less) (sym same) more) (sym (name_cmp-is m n less.0)))
+    go same below (inl less) (inr more) rest = let is = name_cmp-is n k more.0 in let self = name_cmp-refl m in absurd (names_apart less (same ∙ sym is))
+    go same below (inr less) (inl more) rest = absurd (names_apart (subst (λ (x : Bytes). name_cmp n x ≡ Less) (sym same) more) (sym (name_cmp-is m n less.0)))
     go same below (inr less) (inr more) rest = let is = name_cmp-is m n less.0 in rw (sym is, same_name-refl m) (rest below less.1 more.1)
 
 -- both paths without their first i names, while both have more
@@ -140,6 +161,19 @@ cmp-ends [] (n ∷ ns) i e = let z : i ≡ 0 = omega arith in rw z (grind (arith
 cmp-ends (m ∷ ms) [] i e = let z : i ≡ 0 = omega arith in rw z (grind (arith, nat_tests))
 cmp-ends (m ∷ ms) (n ∷ ns) zero e = absurd (omega arith)
 cmp-ends (m ∷ ms) (n ∷ ns) (suc i) e = cmp-ends ms ns i (omega arith) ∙ grind (arith, nat_tests)
+
+-- with how many names two paths begin alike, after i names of both
+pub shared_step : (p q : PathNames) (i : ℕ) → i < length p → i < length q → shared (drop i p) (drop i q) ≡ cond (same_name (get_or p i []) (get_or q i [])) (suc (shared (drop (i + 1) p) (drop (i + 1) q))) 0
+shared_step p q i in_p in_q = rw (drop-cons p i [] in_p, drop-cons q i [] in_q, add-one) refl
+
+pub shared_over : (p q : PathNames) (i : ℕ) → min (length p) (length q) ≤ i → shared (drop i p) (drop i q) ≡ 0
+shared_over [] q i over = rw (drop_all {X = Bytes} i [] (omega arith)) refl
+shared_over (m ∷ ms) [] i over = rw (drop_all {X = Bytes} i [] (omega arith)) (none (drop i (m ∷ ms))) where
+  none : (r : PathNames) → shared r [] ≡ 0
+  none [] = refl
+  none (k ∷ ks) = refl
+shared_over (m ∷ ms) (n ∷ ns) zero over = absurd (omega arith)
+shared_over (m ∷ ms) (n ∷ ns) (suc i) over = shared_over ms ns i (omega arith)
 
 -- the next name of a path that lies below another
 pub next_name-below : (p q : PathNames) (d : Bytes) → is_below p q ≡ true → next_name p q ≡ Some (get_or q (length p) d)

@@ -2,7 +2,7 @@
 use Rattle.std.proofs.Common.{◌≡◌, ◌⊎◌, ℕ, suc, zero, ◌+◌, ◌-◌, ◌<◌, ◌≤◌, Bool, true, false, ◌||◌, ◌&&◌, cond, List, [], ◌∷◌, length, drop, take, get_or, set, Some, None, is_some, refl, ap, sym, ◌∙◌, subst, inl, inr, length-drop, drop-cons, add-one, arith}
 use Rattle.std.specs.declared.cmp.Ordering.{Ordering}
 use Rattle.std.specs.declared.cmp.Ordering.TheVariants.{Less, Equal, Greater}
-use Rattle.std.specs.Ordering.{is_eq, is_lt, ordering_reverse}
+use Rattle.std.specs.Ordering.{is_lt, ordering_reverse}
 use Rattle.std.specs.List.{AllByRecursion, AllWithin, list_any, prefix_len, insert, remove}
 use Rattle.std.proofs.Math.Bool.{or-false}
 use Rattle.std.specs.BTreeMap.{insert_entry}
@@ -14,7 +14,7 @@ use Rattle.path_tree.specs.Trees.{Tree, IsTree, is_a_file, entry_at, leads_on, i
 use Rattle.path_tree.specs.Inner.Places.{is_before, place_in, first_at, behind, first_is_below, last_is_above, count_below, last_name_is}
 use Rattle.path_tree.specs.declared.entry.Entry.{Entry}
 use Rattle.path_tree.specs.declared.entry.Entry.TheVariants as entries
-use Rattle.path_tree.proofs.Order.{path_total, true_or_false, same_path-is, same_path-refl, same_path-cmp, path_cmp-is, path_cmp-refl, below-less, below_between, not_both_less}
+use Rattle.path_tree.proofs.Order.{path_total, true_or_false, same_path-is, same_path-refl, less_not_same, more_not_same, path_cmp-is, path_cmp-refl, below-less, below_between, not_both_less}
 use Rattle.path_tree.proofs.Rising.{Item, Apart, Rises, each_weaker}
 
 lt_or_same : (i j : ℕ) → i ≤ j → (i < j) ⊎ (i ≡ j)
@@ -61,15 +61,12 @@ later p e es (inr less) h = each_weaker es (λ f a. path_total.trans p e.0 f.0 l
 
 -- ---- the entry at a path
 
-not_same : (p q : PathNames) → path_cmp p q ≡ Less → same_path p q ≡ false
-not_same p q e = same_path-cmp p q ∙ ap is_eq e
-
 none_there : (p : PathNames) (es : Tree) → AllAfter p es → entry_at es p ≡ None
 none_there p [] h = refl
-none_there p (f ∷ fs) h = rw (not_same p f.0 h.0) (none_there p fs h.1)
+none_there p (f ∷ fs) h = rw (less_not_same p f.0 h.0) (none_there p fs h.1)
 
 before_not_same : (p q : PathNames) → is_lt (path_cmp q p) ≡ true → same_path p q ≡ false
-before_not_same p q e = same_path-cmp p q ∙ ap is_eq (path_total.antisymm p q ∙ ap ordering_reverse (lt_is (path_cmp q p) e))
+before_not_same p q e = more_not_same p q (lt_is (path_cmp q p) e)
 
 pub entry_at-place : (t : Tree) (p : PathNames) → Rises t → entry_at t p ≡ first_at (drop (place_in t p) t) p
 entry_at-place [] p r = refl
@@ -89,7 +86,7 @@ before_not_below p q e = go (true_or_false (is_below p q)) where
 pub not_below_itself : (p q : PathNames) → same_path p q ≡ true → is_below p q ≡ false
 not_below_itself p q same = go (true_or_false (is_below p q)) where
   go : (is_below p q ≡ true) ⊎ (is_below p q ≡ false) → is_below p q ≡ false
-  go (inl b) = let less = below-less p q b in let not = not_same p q less in cc
+  go (inl b) = let less = below-less p q b in let not = less_not_same p q less in cc
   go (inr b) = b
 
 -- once an entry after a path isn't below it, no later one is

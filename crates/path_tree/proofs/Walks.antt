@@ -1,23 +1,15 @@
 -- What stands at a path of a nesting's entries is what the walk down the nesting meets.
 use Rattle.std.proofs.Common.{◌≡◌, Bool, true, false, ◌||◌, ◌&&◌, List, [], ◌∷◌, ◌++◌, map, Option, Some, None, cond, refl, sym, ◌∙◌, ap, subst}
 use Rattle.std.specs.List.{cons_option, dedup, dedup_from}
-use Rattle.std.specs.declared.cmp.Ordering.TheVariants.{Less, Equal}
+use Rattle.std.specs.declared.cmp.Ordering.TheVariants.{Less}
 use Rattle.std.proofs.lemmas.List.Folds.{list_any-append}
 use Rattle.std.proofs.lemmas.List.Elements.{filter_map-append}
 use Rattle.path_tree.specs.Paths.{Bytes, PathNames, name_cmp, same_name, same_path, is_root, is_below, next_name}
 use Rattle.path_tree.specs.Trees.{Tree, Node, File, Folder, NoSuch, file_in, is_kept, entry_at, leads_on, next_names, names_below, node_at}
 use Rattle.path_tree.specs.declared.entry.Entry.{Entry}
 use Rattle.path_tree.specs.declared.entry.Entry.TheVariants as entries
-use Rattle.path_tree.proofs.Order.{name_cmp-refl, same_name-is, same_name-refl}
+use Rattle.path_tree.proofs.Order.{names_differ, same_name-is, same_name-refl, same_name-flips}
 use Rattle.path_tree.specs.Nestings.{Nesting, Empty, FileThen, FolderThen, names_in, in_file, stands_in, stands_at, under, mark_of, flat, IsAfter, IsKnown, IsNesting}
-
--- ---- names
-
-pub names_differ : (m n : Bytes) → name_cmp m n ≡ Less → same_name m n ≡ false
-names_differ m n e = go (same_name m n) refl where
-  go : (b : Bool) → same_name m n ≡ b → b ≡ false
-  go true s = let self : name_cmp m n ≡ Equal = subst (λ (k : Bytes). name_cmp m k ≡ Equal) (same_name-is m n s) (name_cmp-refl m) in let bad : Less ≡ Equal = sym e ∙ self in cc
-  go false s = refl
 
 -- ---- what stands at a path, from the entry there, whether something lies below it, and the names below
 
@@ -221,10 +213,7 @@ begun-first m false inside rest known nesting =
     rw (ap (repeated m) h.is) (once m h.others rest)
 
 pub later : (k m : Bytes) → name_cmp k m ≡ Less → same_name m k ≡ false
-later k m e = go (same_name m k) refl where
-  go : (b : Bool) → same_name m k ≡ b → b ≡ false
-  go true s = let self : name_cmp k m ≡ Equal = subst (λ (x : Bytes). name_cmp x m ≡ Equal) (same_name-is m k s) (name_cmp-refl m) in let bad : Less ≡ Equal = sym e ∙ self in cc
-  go false s = refl
+later k m e = same_name-flips m k ∙ names_differ k m e
 
 names-after : (g : Nesting) (k : Bytes) → IsAfter k g → IsNesting g → dedup_from same_name k (next_names (flat g) []) ≡ k ∷ names_in g
 names-after Empty k after nesting = refl

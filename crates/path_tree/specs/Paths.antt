@@ -1,5 +1,5 @@
 -- Paths as lists of names, names as lists of bytes. The path of no names is the root.
-use Rattle.std.specs.Prelude.{ℕ, ◌≤◌, ◌<◌, ◌≢◌, Bool, true, false, ◌&&◌, nat_eq, List, [], ◌∷◌, length, Option, Some, None, cond}
+use Rattle.std.specs.Prelude.{ℕ, suc, ◌≤◌, ◌<◌, ◌≢◌, Bool, true, false, ◌&&◌, nat_eq, List, [], ◌∷◌, length, Option, Some, None, cond, if◌then◌else◌}
 use Rattle.std.specs.List.{All}
 use Rattle.std.specs.Ordering.{nat_cmp}
 use Rattle.std.specs.Cmp.Lexicographic.{slice_cmp, pointwise}
@@ -41,6 +41,11 @@ next_name [] [] = None
 next_name [] (n ∷ ns) = Some n
 next_name (m ∷ ms) [] = None
 next_name (m ∷ ms) (n ∷ ns) = cond (same_name m n) (next_name ms ns) None
+
+-- with how many names two paths begin alike
+abbrev pub shared : PathNames → PathNames → ℕ
+shared (m ∷ p) (n ∷ q) = if same_name m n then suc (shared p q) else 0
+shared _ _ = 0
 
 pub record IsName (name : Bytes) : Type 0 where
   pub at_least : 1 ≤ length name

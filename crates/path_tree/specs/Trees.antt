@@ -1,6 +1,6 @@
 -- A tree is a finite map from paths to entries: its entries in the order of paths. An entry is a file with its bytes, or
 -- a folder that is kept, whether or not something stands in it.
-use Rattle.std.specs.Prelude.{◌≡◌, ◌≤◌, ◌≢◌, Bool, true, false, ◌||◌, ◌&&◌, List, [], ◌∷◌, length, Option, Some, None, if◌then◌else◌}
+use Rattle.std.specs.Prelude.{◌≡◌, ◌≤◌, ◌≢◌, ℕ, get_or, Bool, true, false, ◌||◌, ◌&&◌, List, [], ◌∷◌, length, Option, Some, None, if◌then◌else◌}
 use Rattle.std.specs.List.{All, AllPairs, Any, Contains, list_any, filter_map, dedup}
 use Rattle.std.specs.Map.{lookup}
 use Rattle.std.specs.declared.cmp.Ordering.TheVariants.{Less}
@@ -115,3 +115,22 @@ files_in t = filter_map as_file t
 
 abbrev pub made_in : Tree → List PathNames
 made_in t = filter_map as_folder t
+
+-- ---- an entry by its number, and its path and bytes
+
+abbrev pub content_in : Entry → Bytes
+content_in (entries.File b) = b
+content_in entries.Folder = []
+
+abbrev pub item_at : Tree → ℕ → PathNames × Entry
+item_at t i = get_or t i ([], entries.Folder)
+
+abbrev pub path_at : Tree → ℕ → PathNames
+path_at t i = (item_at t i).0
+
+-- a kept folder has none
+abbrev pub bytes_at : Tree → ℕ → Bytes
+bytes_at t i = content_in (item_at t i).1
+
+abbrev pub is_file_at : Tree → ℕ → Bool
+is_file_at t i = is_a_file (item_at t i).1

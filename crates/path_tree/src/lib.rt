@@ -13,6 +13,7 @@
 //! ```
 #![tactic(auto)]
 
+mod edited;
 mod entries;
 mod entry;
 mod laws;
@@ -21,6 +22,7 @@ mod path;
 mod text;
 mod tree;
 
+pub use edited::edited_entries;
 pub use entry::Entry;
 pub use laws::{
     files_stay_the_same, lookups_stay_the_same, nestings_are_their_entries, others_stay,

@@ -1,4 +1,4 @@
-ghost use Rattle.path_tree.specs.Paths.{same_name};
+ghost use Rattle.path_tree.specs.Paths.{path_cmp, same_name};
 ghost use Rattle.std.specs.Prelude.{◌≡◌, ◌≤◌, ◌<◌, length, take, slice_get, option_map, Some, Ok, IfOk, OnErr, IsSome, IsOk, IsErrOf};
 ghost use Rattle.std.specs.Slice.Iter.{iter_rest};
 
@@ -52,6 +52,19 @@ impl Name {
             bytes: Vec::from_slice(*self.bytes.allocator(), &self.bytes)?,
         })
     }
+}
+
+/// How a list of names stands to another: the first that differ decide, and else the one of fewer names stands first.
+fn compare_names(own: &[Name], others: &[Name]) -> Ordering
+    ensures { result ≡ path_cmp own.now others.now }
+{
+    for i in 0..own.len().min(others.len()) {
+        match own[i].bytes().cmp(&others[i].bytes()) {
+            Ordering::Equal => {}
+            decided => return decided,
+        }
+    }
+    own.len().cmp(&others.len())
 }
 
 pub(crate) fn same_bytes(name: &[u8], other: &[u8]) -> bool
@@ -118,7 +131,7 @@ impl Model for Path {
 
 impl Path {
     ghost use Rattle.oc_bytes.specs.Outcome.{Gives, Spells};
-    ghost use Rattle.path_tree.specs.Paths.{IsPath, path_cmp, is_below, same_path, next_name};
+    ghost use Rattle.path_tree.specs.Paths.{IsPath, path_cmp, is_below, same_path, next_name, shared};
     ghost use Rattle.path_tree.specs.Texts.{path_of, text_of, text_cause, with_below};
     ghost use Rattle.std.specs.String.{string_bytes};
 
@@ -213,14 +226,33 @@ impl Path {
     pub fn compare(&self, other: &Path) -> Ordering
         ensures { result ≡ path_cmp self.now other.now }
     {
+        compare_names(&self.names, &other.names)
+    }
+
+    /// How the path of this one's first `own` names stands to that of the other's first `others` names, in the order in
+    /// which `compare` has them. Neither path is copied.
+    pub fn compare_first(&self, own: usize, other: &Path, others: usize) -> Ordering
+        requires own { own ≤ length self.now }
+        requires others { others ≤ length other.now }
+        ensures { result ≡ path_cmp (take own self.now) (take others other.now) }
+    {
+        compare_names(&self.names[..own], &other.names[..others])
+    }
+
+    /// With how many names this path and another begin alike, from 0 to the number of names of the shorter of both.
+    pub fn shared_names(&self, other: &Path) -> usize
+        ensures shared { result ≡ shared self.now other.now }
+        ensures within { result ≤ length self.now }
+        ensures within_other { result ≤ length other.now }
+    {
         let (own, others) = (self.names.as_slice(), other.names.as_slice());
-        for i in 0..own.len().min(others.len()) {
-            match own[i].bytes().cmp(&others[i].bytes()) {
-                Ordering::Equal => {}
-                decided => return decided,
+        let least = own.len().min(others.len());
+        for i in 0..least {
+            if !same_bytes(own[i].bytes(), others[i].bytes()) {
+                return i;
             }
         }
-        own.len().cmp(&others.len())
+        least
     }
 
     /// Whether another path has the same names.

@@ -1,4 +1,5 @@
--- The report of what happened in a world: a line for each event, with its reply. These are this project's own texts.
+-- The report of what happened in a world: a line for each event, with its reply; and what running a script promises. These texts are
+-- this project's own.
 use Rattle.std.specs.Prelude.{◌≡◌, ℕ, List, [], ◌∷◌, ◌++◌, Result, OnOk}
 use Rattle.path_tree.specs.Paths.{Bytes}
 use Rattle.path_tree.specs.Texts.{text_of}

@@ -75,7 +75,8 @@ impl Cast {
             × IsNext setting done (view_happening deed) }
         ensures { OnOk result ((setting : Setting) (done : List Step)
             → CastStands setting station.now done shower.old self.old
-            → CastStands setting station.now (done ++ view_happening deed ∷ []) shower.new self.new) }
+            → CastStands setting station.now
+            (done ++ view_happening deed ∷ []) shower.new self.new) }
     {
         match deed {
             Happening::Commit(editor, edits) => {

@@ -72,8 +72,8 @@ pub(crate) fn read<G: Gate>(alloc: Global, gate: &G, seat: &mut ReaderSeat)
     seat.whole = true;
 }
 
-/// A seat for each reader, with a viewer of its own, its paths, and room for all its opens: those of `before`, and of its paths. Out of
-/// memory is the only refusal.
+/// A seat for each reader, with a viewer of its own, its paths, its finales, and room for all its opens: those of `before`, of its paths
+/// and of its finales. Out of memory is the only refusal.
 pub(crate) fn reader_seats(
     alloc: Global,
     numbers: &[u32],

@@ -1,5 +1,5 @@
 -- A generated script: the names of its files, how many lines it has, their numbers, and that these lines are in their ranges and of the actors that it lists.
-use Rattle.session_script.proofs.Imports.{◌≡◌, ◌++◌, ◌∷◌, [], ◌<◌, ℕ, true, refl, arith, codes, list_all, range_with_len, decimal, Bytes, PathNames, file_path, ◌+◌, ◌*◌, ◌≤◌, List, length, map, Some, sym, ap, ◌∙◌, length-append, flat_map, length-map, map-append, length-range_with_len, Task, Parts, Stage, During, After, Act, LineFields, act_of, task_line, finale_line, script_of_parts, numbers, commit_of, lines_of_editor, lines_of_feeder, lines_of_reader, finale_of, finales_of, acts_during, acts_at_end, number_lines, generated_script, All, Contains, All-nil, All-cons, All-head, All-tail, All-append, All-map, All-replicate, IsActor, IsInRange, AreActors, IsInRanges, IsMentioned, AreListed, fill_of, fates, open_of}
+use Rattle.session_script.proofs.Imports.{◌≡◌, ◌++◌, ◌∷◌, [], ◌<◌, ℕ, true, refl, arith, codes, list_all, range_with_len, decimal, Bytes, PathNames, file_path, ◌+◌, ◌*◌, ◌≤◌, List, length, map, Some, sym, ap, ◌∙◌, length-append, flat_map, length-map, length-range_with_len, Task, Parts, Stage, During, After, Act, LineFields, act_of, task_line, finale_line, script_of_parts, numbers, commit_of, lines_of_editor, lines_of_feeder, lines_of_reader, finale_of, finales_of, acts_during, acts_at_end, number_lines, generated_script, All, Contains, All-nil, All-cons, All-head, All-tail, All-append, All-map, All-replicate, IsActor, IsInRange, AreActors, IsInRanges, IsMentioned, AreListed, fill_of, fates, open_of}
 use Rattle.std.specs.Fmt.{digits}
 use Rattle.path_tree.specs.Texts.{is_name}
 use Rattle.session_script.proofs.Lists.{tested, all_in_range, in_range, range_is_distinct, all_flat}
@@ -52,11 +52,8 @@ flat_count c f h (n ∷ ns) =
     swap : (a b : ℕ) → a + b ≡ b + a
     swap a b = omega arith
 
-pub finales_count : (k e n : ℕ) → length (flat_map finales_of (range_with_len 1 k) ++ map (finale_of e) (range_with_len 0 n)) ≡ 32 * k + n
-finales_count k e n =
-    let front = flat_count 32 finales_of finale_count (range_with_len 1 k) in let back = length-map (range_with_len 0 n) (finale_of e) in
-    let both = length-append (flat_map finales_of (range_with_len 1 k)) (map (finale_of e) (range_with_len 0 n)) in
-    let many = length-range_with_len 1 k in let some = length-range_with_len 0 n in omega (arith, front, back, both, many, some)
+pub finales_count : (k : ℕ) → length (flat_map finales_of (range_with_len 1 k)) ≡ 32 * k
+finales_count k = let count = flat_count 32 finales_of finale_count (range_with_len 1 k) in let many = length-range_with_len 1 k in omega (arith, count, many)
 
 numbers_count : (size : ℕ) → length (numbers size) ≡ size
 unfolding numbers
@@ -70,28 +67,16 @@ during_count size = let e = flat_count 36 lines_of_editor editor_count (numbers 
     let two = length-append (flat_map lines_of_editor (numbers size) ++ lines_of_feeder) (flat_map (lines_of_reader size) (numbers size)) in
     let f = feeder_count in omega (arith, e, r, n, one, two, f)
 
-pub few_tasks : (size : ℕ) (xs : List Task) → size ≤ 16 → map act_of xs ≡ acts_during size → length xs ≤ 1664
-few_tasks size xs most is = let e = during_count size in let n = length-map xs act_of in let same = ap length is in omega (arith, e, n, same, most)
+pub task_count : (size : ℕ) (xs : List Task) → map act_of xs ≡ acts_during size → length xs ≡ 100 * size + 64
+task_count size xs is = let e = during_count size in let n = length-map xs act_of in let same = ap length is in omega (arith, e, n, same)
 
 -- ---- numbered lines
 
-pub numbered_more : (n m : ℕ) (stage : Stage) (acts : List Act) (a : Act) → m ≡ n + length acts
-    → number_lines n stage (acts ++ a ∷ []) ≡ number_lines n stage acts ++ record { number = m; stage = stage; act = a } ∷ []
-numbered_more n m stage [] a e = let same : n ≡ m = omega (arith, e) in ap (λ k. (record { number = k; stage = stage; act = a }) ∷ []) same
-numbered_more n m stage (b ∷ acts) a e = ap (λ ls. (record { number = n; stage = stage; act = b }) ∷ ls) (numbered_more (n + 1) m stage acts a (omega (arith, e)))
-
--- what is numbered so far
-pub record AreNumbered {B : Type 0} (view : B → LineFields) (first : ℕ) (stage : Stage) (number : ℕ) (acts : List Act) (made : List B) : Type 0 where
-  pub next : number ≡ first + length acts
-  pub lines : map view made ≡ number_lines first stage acts
-
-pub one_numbered : {B : Type 0} (view : B → LineFields) (first : ℕ) (stage : Stage) (number : ℕ) (acts : List Act) (made : List B) (a : Act) (y : B)
-    → AreNumbered view first stage number acts made → view y ≡ record { number = number; stage = stage; act = a }
-    → AreNumbered view first stage (number + 1) (acts ++ a ∷ []) (made ++ y ∷ [])
-one_numbered view first stage number acts made a y h is = record {
-  next = let n = h.next in let l = length-append acts (a ∷ []) in omega (arith, n, l);
-  lines = map-append view made (y ∷ []) ∙ rw (h.lines, is) (sym (numbered_more first number stage acts a h.next));
-}
+pub number_lines-append : (n m : ℕ) (stage : Stage) (acts more : List Act) → m ≡ n + length acts
+    → number_lines n stage (acts ++ more) ≡ number_lines n stage acts ++ number_lines m stage more
+number_lines-append n m stage [] more e = let same : n ≡ m = omega (arith, e) in ap (λ k. number_lines k stage more) same
+number_lines-append n m stage (act ∷ acts) more e =
+    ap (λ ls. (record { number = n; stage = stage; act = act }) ∷ ls) (number_lines-append (n + 1) m stage acts more (omega (arith, e)))
 
 -- ---- the whole
 

@@ -1,7 +1,7 @@
 -- What all that is said is, with one line more, and what a reading stands for then.
-use Rattle.session_script.proofs.Imports.{◌≡◌, ℕ, ◌+◌, ◌-◌, ◌^◌, min, Bool, true, false, ◌||◌, cond, List, [], ◌∷◌, ◌++◌, length, map, Option, None, refl, ap, arith, ◌∙◌, sym, subst, length-append, append-nil, list_any, cap_at_u32, Part, Opening, Running, Closing, Before, During, Act, TaskLine, Finale, task_line, lines_of, Reading, Saying, Passed, Starts, Does, Ends, is_start, part_after, part_of, who, editor_of, reader_of, with_actor, actors, stage_above, lines_from, script_of, as_before, script_after, IsShaped, StandsFor, Adds, Suits, SaysInRange, IsInRanges, AreListed, is_end, first_mentions, eqb-true, Some, ne_eqb}
+use Rattle.session_script.proofs.Imports.{◌≡◌, ℕ, ◌+◌, ◌-◌, ◌^◌, min, Bool, true, false, ◌||◌, cond, List, [], ◌∷◌, ◌++◌, length, map, Option, None, refl, ap, arith, ◌∙◌, sym, subst, length-append, append-nil, list_any, cap_at_u32, Part, Opening, Running, Closing, Before, During, Act, TaskLine, Finale, task_line, lines_of, Reading, Saying, Passed, Starts, Does, Ends, is_start, part_after, part_of, who, editor_of, reader_of, with_actor, actors, stage_above, lines_from, script_of, as_before, script_after, IsShaped, StandsFor, Adds, Suits, SaysInRange, IsInRanges, AreListed, is_end, first_mentions, eqb-true, Some}
 use Rattle.std.proofs.Common.{filter, not, filter_map, ◌==◌}
-use Rattle.std.proofs.lemmas.Bool.{cond-true, eqb-false, eq-eqb}
+use Rattle.std.proofs.lemmas.Bool.{cond-true}
 use Rattle.std.proofs.lemmas.List.Elements.{filter-append, filter_map-append}
 use Rattle.std.specs.List.{cons_option}
 use Rattle.std.proofs.lemmas.List.Folds.{list_any-append}
@@ -29,7 +29,7 @@ part_more above saying = rw (list_any-append is_end above (saying ∷ []), list_
 -- ---- the actors
 
 abbrev has : ℕ → List ℕ → Bool
-has m xs = list_any (λ k. k == m) xs
+has m xs = list_any (λ k. m == k) xs
 
 abbrev others : ℕ → List ℕ → List ℕ
 others n xs = filter (λ k. not (k == n)) xs
@@ -38,12 +38,12 @@ cons_eq : (n : ℕ) {xs ys : List ℕ} → xs ≡ ys → n ∷ xs ≡ n ∷ ys
 cons_eq n e = ap (λ l. n ∷ l) e
 
 -- a number other than n is among some numbers where it is among those that aren't n
-other_by : (m n x : ℕ) (rest kept : List ℕ) → (n == m) ≡ false → has m kept ≡ has m rest
-    → (b : Bool) → (x == n) ≡ b → has m (cond (not b) (x ∷ kept) kept) ≡ ((x == m) || has m rest)
-other_by m n x rest kept h e true t = e ∙ sym (ap (λ b. b || has m rest) (ap (λ k. k == m) (eqb-true x n t) ∙ h))
-other_by m n x rest kept h e false t = ap (λ b. (x == m) || b) e
+other_by : (m n x : ℕ) (rest kept : List ℕ) → (m == n) ≡ false → has m kept ≡ has m rest
+    → (b : Bool) → (x == n) ≡ b → has m (cond (not b) (x ∷ kept) kept) ≡ ((m == x) || has m rest)
+other_by m n x rest kept h e true t = e ∙ sym (ap (λ b. b || has m rest) (ap (λ k. m == k) (eqb-true x n t) ∙ h))
+other_by m n x rest kept h e false t = ap (λ b. (m == x) || b) e
 
-other : (m n : ℕ) (xs : List ℕ) → (n == m) ≡ false → has m (others n xs) ≡ has m xs
+other : (m n : ℕ) (xs : List ℕ) → (m == n) ≡ false → has m (others n xs) ≡ has m xs
 other m n [] h = refl
 other m n (x ∷ xs) h = other_by m n x xs (others n xs) h (other m n xs h) (x == n) refl
 
@@ -62,12 +62,9 @@ put_under n m xs false = refl
 
 first_by : (m n : ℕ) (xs : List ℕ) (b : Bool) → (m == n) ≡ b → n ∷ others n (with_actor xs (Some m)) ≡ with_actor (n ∷ others n xs) (Some m)
 first_by m n xs true h =
-    let back : (n == m) ≡ true = eq-eqb n m (sym (eqb-true m n h)) in
-    cons_eq n (same_put m n xs h (has m xs)) ∙ sym (cond-true ((n == m) || has m (others n xs)) _ _ (ap (λ b. b || has m (others n xs)) back))
-first_by m n xs false h =
-    let back : (n == m) ≡ false = ne_eqb n m (λ e. eqb-false m n h (sym e)) in
-    cons_eq n (other_put m n xs h (has m xs)) ∙ put_under n m _ (has m xs)
-    ∙ sym (ap (λ b. cond b (n ∷ others n xs) ((n ∷ others n xs) ++ m ∷ [])) (ap (λ b. b || has m (others n xs)) back ∙ other m n xs back))
+    cons_eq n (same_put m n xs h (has m xs)) ∙ sym (cond-true ((m == n) || has m (others n xs)) _ _ (ap (λ b. b || has m (others n xs)) h))
+first_by m n xs false h = cons_eq n (other_put m n xs h (has m xs)) ∙ put_under n m _ (has m xs)
+    ∙ sym (ap (λ b. cond b (n ∷ others n xs) ((n ∷ others n xs) ++ m ∷ [])) (ap (λ b. b || has m (others n xs)) h ∙ other m n xs h))
 
 first_more : (ns : List ℕ) (m : ℕ) → first_mentions (ns ++ m ∷ []) ≡ with_actor (first_mentions ns) (Some m)
 first_more [] m = refl
@@ -161,20 +158,20 @@ opening_stays : (part : Part) → part ≡ Opening → part ≡ Closing → ⊥
 opening_stays part e f = let both : Opening ≡ Closing = sym e ∙ f in cc
 
 pub adds_start : (old new : Reading) (saying : Saying) → saying ≡ Starts → Suits old.part saying → IsShaped old → new.number ≡ old.number
-    → new.part ≡ Running → new.parts.editors ≡ old.parts.editors → new.parts.readers ≡ old.parts.readers
-    → new.parts.before.items ≡ old.parts.during.items → new.parts.during.items ≡ [] → new.parts.settle ≡ old.parts.settle
-    → new.parts.finales ≡ old.parts.finales → Adds old new saying
+    → new.part ≡ Running → new.editors ≡ old.editors → new.readers ≡ old.readers
+    → new.before.items ≡ old.during.items → new.during.items ≡ [] → new.settle ≡ old.settle
+    → new.finales ≡ old.finales → Adds old new saying
 adds_start old new saying is suits shape number part editors readers moves left settle finales =
     let opening : old.part ≡ Opening = subst (Suits old.part) is suits in
     let none = shape.no_settle (opening_stays old.part opening) in
     let nothing = shape.no_finales (opening_stays old.part opening) in
-    let lines = (λ i. lines_of new.parts.before.items new.parts.during.items (settle i) (finales i).items)
-    ∙ lines_start old.parts.before.items old.parts.during.items new.parts.before.items new.parts.during.items old.parts.settle old.parts.finales.items
+    let lines = (λ i. lines_of new.before.items new.during.items (settle i) (finales i).items)
+    ∙ lines_start old.before.items old.during.items new.before.items new.during.items old.settle old.finales.items
     (shape.before_start opening) none nothing moves left in
     let adds : Adds old new Starts = record {
       number = number;
       part = rw opening part;
-      script = λ i. record { editors = (editors i).items; readers = (readers i).items; lines = lines i };
+      script = λ i. record { editors = (editors i).keys; readers = (readers i).keys; lines = lines i };
       shape = record {
         before_start = λ e. let both : Running ≡ Opening = sym part ∙ e in absurd (cc);
         no_settle = λ _. settle ∙ none;

@@ -5,7 +5,7 @@ pub use Rattle.path_tree.specs.Paths.{PathNames, Bytes}
 pub use Rattle.session_script.specs.Generated.{number_lines}
 unfoldable pub use Rattle.session_script.specs.Generated.{numbers, commit_of, lines_of_editor, lines_of_feeder, lines_of_reader, finales_of, acts_during, acts_at_end, generated_script, file_path, fill_of, fates, open_of, finale_of}
 pub use Rattle.session_script.specs.Grammar.{Starts, Saying, Passed, said_by, may_stand, in_order, in_words, words_in, line_by, Does, Ends, is_start, is_end, part_of, who, first_mentions, actors, stage_above, lines_from, is_feed, lines_in, or_bad_line, sayings, script_of, meaning_of, ◌>>=◌, is_space, keyword_of, fates_in, fates_onto, all_fates}
-pub use Rattle.session_script.specs.Inner.{as_before, with_line, script_after, StandsFor, Reads, IsShaped, Adds, Suits, SaysInRange, view_said, words_left, part_after, with_actor}
+pub use Rattle.session_script.specs.Inner.{as_before, with_line, script_after, script_read, SaysSomething, StandsFor, Reads, IsShaped, Adds, Suits, SaysInRange, view_said, words_left, part_after, with_actor}
 pub use Rattle.session_script.specs.Memory.{has_path, reaches_path, is_kept, asks_in_order, asks_in_words, line_asks, AsksForMemory}
 pub use Rattle.session_script.specs.Scripts.{act_of, task_line, finale_line, script_of_parts, lines_of, settle_lines, Act, LineFields, Open, Fields, cause, editor_of, reader_of, Settle, Put, Fill, Remove, MakeFolder, RemoveFolder, Commit, Draw, view_line}
 pub use Rattle.session_script.specs.Ranges.{IsActor, IsInRange, AreActors, IsInRanges, IsMentioned, AreListed}

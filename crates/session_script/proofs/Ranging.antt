@@ -1,23 +1,12 @@
 -- A script with one line more: its numbers lie in their ranges, no actor stands twice, and it lists all whom its lines name.
-use Rattle.session_script.proofs.Imports.{◌≡◌, ℕ, suc, ◌≤◌, Bool, true, false, ◌||◌, cond, eqb, List, [], ◌∷◌, ◌++◌, length, get_or, Option, Some, None, refl, arith, sym, ◌∙◌, All, Contains, IfSome, AllByRecursion, IsDistinct, list_any, eqb-true, ne_eqb, All-nil, All-cons, All-push, All-head, All-tail, All-map, Stage, During, After, Act, Fill, Draw, Open, Settle, LineFields, Fields, Saying, Passed, Starts, Does, Ends, editor_of, reader_of, with_actor, script_of, IsActor, IsInRange, AreActors, IsInRanges, IsMentioned, AreListed, as_before, with_line, script_after, SaysInRange}
+use Rattle.session_script.proofs.Imports.{◌≡◌, ℕ, ◌≤◌, Bool, true, false, cond, eqb, nat_eq, List, [], ◌∷◌, ◌++◌, length, get_or, Option, Some, None, refl, arith, All, Contains, IfSome, AllByRecursion, IsDistinct, list_any, eqb-true, ne_eqb, All-nil, All-cons, All-push, All-head, All-tail, All-map, Stage, During, After, Act, Fill, Draw, Open, Settle, LineFields, Fields, Saying, Passed, Starts, Does, Ends, editor_of, reader_of, with_actor, script_of, IsActor, IsInRange, AreActors, IsInRanges, IsMentioned, AreListed, as_before, with_line, script_after, SaysInRange}
 use Rattle.std.proofs.lemmas.Cmp.{nat_eq_equiv}
-use Rattle.std.proofs.lemmas.List.Elements.{All-contains, Contains-push, Contains-append_left}
+use Rattle.std.proofs.lemmas.List.Elements.{All-contains, Contains-append_left}
 use Rattle.std.proofs.lemmas.Map.Keys.{IsDistinct-push}
+use Rattle.indexmap.proofs.CallerLemmas.{Contains-list_any, Contains-insert_key}
 use Rattle.std.proofs.lemmas.Map.Steps.{length-le_from_distinct_below}
 
 -- ---- actors
-
-contained_by : (n x : ℕ) (xs : List ℕ) (b : Bool) → eqb n x ≡ b → (list_any (eqb n) xs ≡ true → Contains xs n) → (b || list_any (eqb n) xs) ≡ true → Contains (x ∷ xs) n
-contained_by n x xs true e rest h = (0, omega arith, sym (eqb-true n x e))
-contained_by n x xs false e rest h = let c = rest h in (suc c.0, omega (arith, c.1), c.2)
-
-contained : (n : ℕ) (xs : List ℕ) → list_any (eqb n) xs ≡ true → Contains xs n
-contained n [] h = cc
-contained n (x ∷ xs) h = contained_by n x xs (eqb n x) refl (contained n xs) h
-
-flips : (n : ℕ) (xs : List ℕ) → list_any (λ x. eqb x n) xs ≡ list_any (eqb n) xs
-flips n [] = refl
-flips n (x ∷ xs) = rw (nat_eq_equiv.symm x n, flips n xs) refl
 
 none_zero : (xs : List ℕ) → All IsActor xs → AllByRecursion (λ y. eqb 0 y ≡ false) xs
 none_zero [] h = tt
@@ -28,15 +17,15 @@ unfolding IsDistinct
 few xs h once =
     let low : All (λ n. n ≤ 64) (0 ∷ xs) = All-cons (λ n. n ≤ 64) 0 xs (omega arith) (λ k d lt. (h k d lt).at_most) in
     let l = length-le_from_distinct_below (0 ∷ xs) 65 (none_zero xs h, once)
-    (λ q is. let most = All-contains (λ n. n ≤ 64) (0 ∷ xs) q low (contained q (0 ∷ xs) is) in omega arith) in omega arith
+    (λ q is. let most = All-contains (λ n. n ≤ 64) (0 ∷ xs) q low (Contains-list_any nat_eq eqb-true (0 ∷ xs) q is) in omega arith) in omega arith
 
-actor_more : (known : List ℕ) (n : ℕ) → IsActor n → AreActors known → (b : Bool) → list_any (λ x. eqb x n) known ≡ b → AreActors (cond b known (known ++ n ∷ []))
+actor_more : (known : List ℕ) (n : ℕ) → IsActor n → AreActors known → (b : Bool) → list_any (eqb n) known ≡ b → AreActors (cond b known (known ++ n ∷ []))
 actor_more known n a h true e = h
-actor_more known n a h false e = let each = All-push IsActor known n h.each a in let once = IsDistinct-push nat_eq_equiv known n h.once (sym (flips n known) ∙ e) in
+actor_more known n a h false e = let each = All-push IsActor known n h.each a in let once = IsDistinct-push nat_eq_equiv known n h.once e in
     record { each = each; once = once; most = few (known ++ n ∷ []) each once }
 
 actors_more : (known : List ℕ) (o : Option ℕ) → IfSome o IsActor → AreActors known → AreActors (with_actor known o)
-actors_more known (Some n) a h = actor_more known n a h (list_any (λ x. eqb x n) known) refl
+actors_more known (Some n) a h = actor_more known n a h (list_any (eqb n) known) refl
 actors_more known None a h = h
 
 editor_in_range : (act : Act) → IsInRange act → IfSome (editor_of act) IsActor
@@ -71,16 +60,12 @@ none_in_range = let none : AreActors [] = record { each = All-nil IsActor; once 
 
 -- ---- all whom lines name
 
-actor_here : (known : List ℕ) (n : ℕ) (b : Bool) → list_any (λ x. eqb x n) known ≡ b → Contains (cond b known (known ++ n ∷ [])) n
-actor_here known n true e = contained n known (sym (flips n known) ∙ e)
-actor_here known n false e = Contains-push known n
-
 is_here : (known : List ℕ) (o : Option ℕ) → IfSome o (Contains (with_actor known o))
-is_here known (Some n) = actor_here known n (list_any (λ x. eqb x n) known) refl
+is_here known (Some n) = Contains-insert_key nat_eq eqb-true known n
 is_here known None = tt
 
 stays : (known : List ℕ) (o : Option ℕ) (m : ℕ) → Contains known m → Contains (with_actor known o) m
-stays known (Some n) m h = elim (list_any (λ x. eqb x n) known) as (λ b. Contains (cond b known (known ++ n ∷ [])) m) [ true ↦ h | false ↦ Contains-append_left known (n ∷ []) m h ]
+stays known (Some n) m h = elim (list_any (eqb n) known) as (λ b. Contains (cond b known (known ++ n ∷ [])) m) [ true ↦ h | false ↦ Contains-append_left known (n ∷ []) m h ]
 stays known None m h = h
 
 mentioned : (editors readers : List ℕ) (act : Act) → IfSome (editor_of act) (Contains editors) → IfSome (reader_of act) (Contains readers) → IsMentioned editors readers act

@@ -1,5 +1,5 @@
 -- The lines of a text, read one after another.
-use Rattle.session_script.proofs.Imports.{◌≡◌, ℕ, ◌+◌, ◌<◌, ◌≤◌, Bool, true, false, List, [], ◌∷◌, ◌++◌, length, get_or, take, drop, Option, Some, None, Result, Ok, Err, ap, arith, ◌∙◌, sym, Bor, YieldsList-at, YieldsList-turn, YieldsList-end, take_more, drop_more, take_all, take-append-drop, Gives, Bytes, Reading, LineCause, Parts, Fields, cause, script_of_parts, Saying, Passed, Starts, Does, Ends, part_of, line_by, is_feed, lines_in, or_bad_line, sayings, script_of, meaning_of, ◌>>=◌, is_kept, line_asks, AsksForMemory, StandsFor, Reads, Suits, as_before, script_after, subst, length-map, ◌||◌, ◌&&◌, cond, eqb, Keyword, Part, Order, keyword_of, said_by, may_stand, in_order, in_words, words_in, has_path, reaches_path, asks_in_order, asks_in_words, append-nil, append_assoc}
+use Rattle.session_script.proofs.Imports.{◌≡◌, ℕ, ◌+◌, ◌<◌, ◌≤◌, Bool, true, false, List, [], ◌∷◌, ◌++◌, length, get_or, take, drop, Option, Some, None, Result, Ok, Err, ap, arith, ◌∙◌, sym, Bor, YieldsList-at, YieldsList-turn, YieldsList-end, take_more, drop_more, take_all, take-append-drop, Gives, Bytes, Reading, LineCause, Parts, cause, script_of_parts, Saying, Passed, Starts, Does, Ends, part_of, line_by, is_feed, lines_in, or_bad_line, sayings, script_of, meaning_of, ◌>>=◌, is_kept, line_asks, AsksForMemory, StandsFor, script_read, SaysSomething, Reads, Suits, as_before, script_after, subst, length-map, ◌||◌, ◌&&◌, cond, eqb, Keyword, Part, Order, keyword_of, said_by, may_stand, in_order, in_words, words_in, has_path, reaches_path, asks_in_order, asks_in_words, append-nil, append_assoc}
 use Rattle.std.specs.Slice.Iter as slice
 use Rattle.std.specs.Fn.{CalledAt}
 use Rattle.std.specs.Iterator.{Yields}
@@ -36,14 +36,11 @@ kept_asks part (c ∷ cs) h = line_kept part (eqb c 35) (words_in (c ∷ cs)) h
 
 -- ---- what is known once n lines were read
 
-abbrev pub HasLines : Fields → Type 0
-HasLines script = 0 < length script.lines
-
 pub record Walked (text : Bytes) (n : ℕ) (r : Reading) : Type 0 where
   pub said : List Saying
   pub fits : (below : List Bytes) → sayings [] (take n (lines_in text) ++ below) ≡ sayings said below
   pub stands : StandsFor r said
-  pub asked : HasLines (script_of said) → AsksForMemory text
+  pub asked : SaysSomething (script_of said) → AsksForMemory text
 
 -- the next line of a text is this one
 pub record IsNext (text : Bytes) (n : ℕ) (line : Bytes) : Type 0 where
@@ -70,10 +67,10 @@ module _ (text : Bytes) (n : ℕ) (r : Reading) (line : Bytes) (w : Walked text 
   }
 
   -- a line that does something asks for memory
-  asked_more : (s : Saying) → line_by (part_of w.said) line ≡ Ok s → Suits (part_of w.said) s → HasLines (script_of (w.said ++ s ∷ [])) → AsksForMemory text
-  asked_more Passed h suits some = w.asked (subst HasLines (grown w.said Passed suits) some)
+  asked_more : (s : Saying) → line_by (part_of w.said) line ≡ Ok s → Suits (part_of w.said) s → SaysSomething (script_of (w.said ++ s ∷ [])) → AsksForMemory text
+  asked_more Passed h suits some = w.asked (subst SaysSomething (grown w.said Passed suits) some)
   asked_more Starts h suits some = let l = length-map (script_of w.said).lines as_before in
-      let more : HasLines (script_after 0 Starts (script_of w.said)) = subst HasLines (grown w.said Starts suits) some in w.asked (omega (arith, l, more))
+      let more : SaysSomething (script_after 0 Starts (script_of w.said)) = subst SaysSomething (grown w.said Starts suits) some in w.asked (omega (arith, l, more))
   asked_more (Does act) h suits some = asks_here (kept_asks (part_of w.said) line (ap is_kept h))
   asked_more (Ends act) h suits some = asks_here (kept_asks (part_of w.said) line (ap is_kept h))
 
@@ -95,7 +92,7 @@ module _ (text : Bytes) (n : ℕ) (r : Reading) (line : Bytes) (w : Walked text 
   refused X new faults.NoMemory h = tt
 
 -- all lines fit
-pub ends : (text : Bytes) (n : ℕ) (r : Reading) (w : Walked text n r) → length (lines_in text) ≤ n → meaning_of text ≡ Ok (script_of_parts r.parts)
+pub ends : (text : Bytes) (n : ℕ) (r : Reading) (w : Walked text n r) → length (lines_in text) ≤ n → meaning_of text ≡ Ok (script_read r)
 ends text n r w l =
     ap (λ all. all >>= λ all. Ok (script_of all)) (ap (sayings []) (sym (take_all n (lines_in text) l) ∙ sym (append-nil (take n (lines_in text)))) ∙ w.fits [])
     ∙ ap Ok (sym w.stands.script)

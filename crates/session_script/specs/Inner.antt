@@ -1,6 +1,5 @@
 -- What private functions and invariants are stated in; no public contract names it.
-use Rattle.std.specs.Prelude.{◌≡◌, List, [], ◌∷◌, Option, Some, None, MatchOption, ⊤, Result, Ok, Err, option_map, ℕ, ◌+◌, ◌++◌, length, map, ◌==◌, if◌then◌else◌}
-use Rattle.std.specs.List.{list_any}
+use Rattle.std.specs.Prelude.{◌≡◌, List, [], ◌∷◌, Option, Some, None, MatchOption, ⊤, Result, Ok, Err, option_map, ℕ, ◌+◌, ◌<◌, ◌++◌, length, map, nat_eq}
 use Rattle.path_tree.specs.Paths.{Bytes}
 use Rattle.session_script.specs.declared.words.Words.{Words}
 use Rattle.session_script.specs.declared.words.LineFault.{LineFault}
@@ -10,12 +9,14 @@ use Rattle.session_script.specs.declared.line.Part.TheVariants.{Opening, Running
 use Rattle.session_script.specs.declared.line.Said.{Said}
 use Rattle.session_script.specs.declared.line.Said.TheVariants as code
 use Rattle.session_script.specs.declared.script.LineCause.{LineCause}
-use Rattle.session_script.specs.Scripts.{Open, Settle, act_of, Act, LineFields, Fields, editor_of, reader_of, script_of_parts}
+use Rattle.session_script.specs.Scripts.{Open, Settle, act_of, Act, LineFields, Fields, editor_of, reader_of, lines_of}
 use Rattle.session_script.specs.Ranges.{IsInRange, IsInRanges, AreListed}
 use Rattle.session_script.specs.Grammar.{Saying, Passed, Starts, Does, Ends, words_in, part_of, line_by, script_of}
 use Rattle.oc_bytes.specs.Outcome.{cap_at_u32}
+use Rattle.indexmap.specs.IndexSet.{insert_key}
 use Rattle.session_script.specs.declared.reading.Reading.{Reading}
-use Rattle.session_script.specs.declared.script.Parts.{Parts}
+use Rattle.session_script.specs.declared.script.TaskLine.{TaskLine}
+use Rattle.session_script.specs.declared.script.Finale.{Finale}
 use Rattle.session_script.specs.declared.script.ScriptFault.{ScriptFault}
 use Rattle.session_script.specs.declared.script.ScriptFault.TheVariants.{BadLine, NoMemory}
 use Rattle.session_script.specs.declared.script.Stage.{Stage}
@@ -61,19 +62,27 @@ SaysInRange (Ends act) = IsInRange act
 
 -- ---- a reading
 
+-- the script of what was read
+abbrev pub script_read : Reading → Fields
+script_read r = record { editors = r.editors.keys; readers = r.readers.keys; lines = lines_of r.before.items r.during.items r.settle r.finales.items }
+
+-- somebody is named, or something is done
+abbrev pub SaysSomething : Fields → Type 0
+SaysSomething script = 0 < length script.editors + (length script.readers + length script.lines)
+
 -- no task stands above `start` before that comes, and nothing at the end before the closing part
-pub record HasShape (part : Part) (parts : Parts) : Type 0 where
-  pub before_start : part ≡ Opening → parts.before.items ≡ []
-  pub no_settle : (part ≡ Closing → ⊥) → parts.settle ≡ None
-  pub no_finales : (part ≡ Closing → ⊥) → parts.finales.items ≡ []
+pub record HasShape (part : Part) (before : List TaskLine) (settle : Option ℕ) (finales : List Finale) : Type 0 where
+  pub before_start : part ≡ Opening → before ≡ []
+  pub no_settle : (part ≡ Closing → ⊥) → settle ≡ None
+  pub no_finales : (part ≡ Closing → ⊥) → finales ≡ []
 
 abbrev pub IsShaped : Reading → Type 0
-IsShaped r = HasShape r.part r.parts
+IsShaped r = HasShape r.part r.before.items r.settle r.finales.items
 
 pub record StandsFor (r : Reading) (above : List Saying) : Type 0 where
   pub number : r.number ≡ cap_at_u32 (length above)
   pub part : r.part ≡ part_of above
-  pub script : script_of_parts r.parts ≡ script_of above
+  pub script : script_read r ≡ script_of above
   pub ranges : IsInRanges (script_of above)
   pub listed : AreListed (script_of above)
   pub shape : IsShaped r
@@ -88,7 +97,7 @@ part_after part (Ends act) = Closing
 
 -- an actor goes last, unless it is there
 abbrev pub with_actor : List ℕ → Option ℕ → List ℕ
-with_actor actors (Some n) = if list_any (λ known. known == n) actors then actors else actors ++ n ∷ []
+with_actor actors (Some n) = insert_key nat_eq actors n
 with_actor actors None = actors
 
 abbrev pub as_before : LineFields → LineFields
@@ -112,7 +121,7 @@ script_after number (Ends act) script = with_line number After act script
 pub record Adds (old new : Reading) (saying : Saying) : Type 0 where
   pub number : new.number ≡ old.number
   pub part : new.part ≡ part_after old.part saying
-  pub script : script_of_parts new.parts ≡ script_after old.number saying (script_of_parts old.parts)
+  pub script : script_read new ≡ script_after old.number saying (script_read old)
   pub shape : IsShaped new
 
 -- One line more was read, and its saying follows the others; or the line doesn't fit below them, and its number and its cause

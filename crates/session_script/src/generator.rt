@@ -1,5 +1,5 @@
 //! A generated script.
-ghost use Rattle.std.specs.Prelude.{◌≡◌, ◌+◌, ◌++◌, ◌∷◌, ◌≤◌, ◌<◌, ◌^◌, true, [], map, length, IfOk, OnOk, flat_map};
+ghost use Rattle.std.specs.Prelude.{◌≡◌, ◌+◌, ◌*◌, ◌++◌, ◌∷◌, ◌≤◌, ◌<◌, ◌^◌, true, [], map, length, IfOk, OnOk, flat_map};
 ghost use Rattle.oc_bytes.specs.Outcome.{MakesList};
 ghost use Rattle.path_tree.specs.Texts.{is_name};
 ghost use Rattle.session_script.specs.declared.script.Stage.TheVariants.{During, After};
@@ -78,7 +78,8 @@ fn tasks_during(alloc: Global, size: u32) -> Result<Vec<Task>, NoMemory>
     requires least { 1 ≤ size }
     requires most { size ≤ 16 }
     ensures acts { IfOk result (λ tasks. map act_of tasks.items ≡ specs.acts_during size) }
-    ensures few { IfOk result (λ tasks. length tasks.items ≤ 1664) }
+    ensures count { IfOk result (λ tasks.
+        length tasks.items ≡ (FILES + COMMITS + OPENS) * size + DRAWS) }
 {
     let mut tasks = Vec::new(alloc);
     put_files(alloc, &mut tasks, size)?;
@@ -87,24 +88,48 @@ fn tasks_during(alloc: Global, size: u32) -> Result<Vec<Task>, NoMemory>
     Ok(tasks)
 }
 
-/// All that the editors do: each puts eight files and commits them, again and again.
+/// All that the editors do.
 fn put_files(alloc: Global, tasks: &mut Vec<Task>, size: u32) -> Result<(), NoMemory>
     requires { size ≤ 16 }
     ensures { OnOk result (AddsActs tasks.old tasks.new
         (flat_map specs.lines_of_editor (specs.numbers size))) }
 {
     for editor in 1..size + 1 {
-        for commit in 0..COMMITS {
-            for place in 0..FILES_IN_COMMIT {
-                let file = FILES_IN_COMMIT * commit + place;
-                let path = file_path(alloc, editor, file)?;
-                let kind = editor + file;
-                let bytes = 500 * (1 + kind % 40);
-                tasks.push(Task::Fill(editor, path, bytes, (kind % 256) as u8))?;
-            }
-            tasks.push(Task::Commit(editor))?;
-        }
+        put_commits(alloc, tasks, editor)?;
     }
+    Ok(())
+}
+
+/// All that this editor does.
+fn put_commits(alloc: Global, tasks: &mut Vec<Task>, editor: u32) -> Result<(), NoMemory>
+    requires { editor ≤ 16 }
+    ensures { OnOk result (AddsActs tasks.old tasks.new (specs.lines_of_editor editor)) }
+{
+    for commit in 0..COMMITS {
+        put_commit(alloc, tasks, editor, commit)?;
+    }
+    Ok(())
+}
+
+/// One commit of this editor, 0 to 3, below the files that it puts.
+fn put_commit(
+    alloc: Global,
+    tasks: &mut Vec<Task>,
+    editor: u32,
+    commit: u32,
+) -> Result<(), NoMemory>
+    requires editor { editor ≤ 16 }
+    requires commit { commit < COMMITS }
+    ensures { OnOk result (AddsActs tasks.old tasks.new (specs.commit_of editor commit)) }
+{
+    for place in 0..FILES_IN_COMMIT {
+        let file = FILES_IN_COMMIT * commit + place;
+        let path = file_path(alloc, editor, file)?;
+        let kind = editor + file;
+        let bytes = 500 * (1 + kind % 40);
+        tasks.push(Task::Fill(editor, path, bytes, (kind % 256) as u8))?;
+    }
+    tasks.push(Task::Commit(editor))?;
     Ok(())
 }
 
@@ -136,10 +161,26 @@ fn put_opens(alloc: Global, tasks: &mut Vec<Task>, size: u32) -> Result<(), NoMe
         (flat_map (specs.lines_of_reader size) (specs.numbers size))) }
 {
     for reader in 1..size + 1 {
-        for turn in 0..OPENS {
-            let path = file_path(alloc, 1 + (reader + turn) % size, turn % FILES)?;
-            tasks.push(Task::Open(reader, path))?;
-        }
+        put_opens_of(alloc, tasks, size, reader)?;
+    }
+    Ok(())
+}
+
+/// All that this reader does before the end.
+fn put_opens_of(
+    alloc: Global,
+    tasks: &mut Vec<Task>,
+    size: u32,
+    reader: u32,
+) -> Result<(), NoMemory>
+    requires least { 1 ≤ size }
+    requires most { size ≤ 16 }
+    requires reader { reader ≤ 16 }
+    ensures { OnOk result (AddsActs tasks.old tasks.new (specs.lines_of_reader size reader)) }
+{
+    for turn in 0..OPENS {
+        let path = file_path(alloc, 1 + (reader + turn) % size, turn % FILES)?;
+        tasks.push(Task::Open(reader, path))?;
     }
     Ok(())
 }
@@ -162,29 +203,43 @@ fn number_tasks(alloc: Global, tasks: Vec<Task>) -> Result<Vec<TaskLine>, NoMemo
 /// The opens of all files at the end, by their editors, numbered from `first` on.
 fn finales(alloc: Global, size: u32, first: u32) -> Result<Vec<Finale>, NoMemory>
     requires size { size ≤ 16 }
-    requires room { first + 512 < 2 ^ 32 }
+    requires room { first + FILES * size < 2 ^ 32 }
     ensures { IfOk result (λ finales. map finale_line finales.items
         ≡ number_lines first After (flat_map specs.finales_of (specs.numbers size))) }
 {
     let mut finales = Vec::new(alloc);
-    let mut number = first;
     for editor in 1..size + 1 {
-        for file in 0..FILES {
-            finales.push(Finale {
-                number,
-                reader: LAST_READER,
-                path: file_path(alloc, editor, file)?,
-            })?;
-            number += 1;
-        }
+        put_finales(alloc, &mut finales, editor, first + FILES * (editor - 1))?;
     }
     Ok(finales)
+}
+
+/// The opens of this editor's files at the end, numbered from `first` on.
+fn put_finales(
+    alloc: Global,
+    finales: &mut Vec<Finale>,
+    editor: u32,
+    first: u32,
+) -> Result<(), NoMemory>
+    requires editor { editor ≤ 16 }
+    requires room { first + FILES < 2 ^ 32 }
+    ensures { OnOk result (map finale_line finales.new.items
+        ≡ map finale_line finales.old.items ++ number_lines first After (specs.finales_of editor)) }
+{
+    for file in 0..FILES {
+        finales.push(Finale {
+            number: first + file,
+            reader: LAST_READER,
+            path: file_path(alloc, editor, file)?,
+        })?;
+    }
+    Ok(())
 }
 
 /// The path of a file of an editor, 1 to 16; the file is 0 to 31.
 fn file_path(alloc: Global, editor: u32, file: u32) -> Result<Path, NoMemory>
     requires editor { editor ≤ 16 }
-    requires file { file < 32 }
+    requires file { file < FILES }
     ensures { IfOk result (λ path. path ≡ specs.file_path editor file) }
 {
     let Ok(root) = Path::parse(alloc, b"/") else {

@@ -1,6 +1,6 @@
 //! A script, read line by line.
 ghost use Rattle.std.specs.Prelude.{◌≡◌, ◌<◌, true, Ok, Err, [], List, length, IfOk, OnOk, OnErr, IsErrOf};
-ghost use Rattle.oc_bytes.specs.Outcome.{Gives};
+ghost use Rattle.oc_bytes.specs.Outcome.{Gives, MakesList};
 ghost use Rattle.session_script.specs.Scripts.{cause, script_of_parts};
 ghost use Rattle.session_script.specs.Scripts as scripts;
 ghost use Rattle.session_script.specs.Grammar.{meaning_of};
@@ -11,6 +11,7 @@ ghost use Rattle.session_script.specs.Ranges.{AreListed, IsInRanges};
 use crate::line::{Part, Said, read_line};
 use crate::script::{Finale, Parts, Script, ScriptFault, TaskLine};
 use crate::words::LineFault;
+use indexmap::IndexSet;
 use oc_bytes::NoMemory;
 use std::alloc::Global;
 use std::mem;
@@ -23,30 +24,33 @@ struct Reading {
     number: u32,
     /// The part of the script that is reached.
     part: Part,
-    parts: Parts,
+    /// Whom the lines name, in the order of the first lines that do.
+    editors: IndexSet<u32>,
+    readers: IndexSet<u32>,
+    before: Vec<TaskLine>,
+    during: Vec<TaskLine>,
+    settle: Option<u32>,
+    finales: Vec<Finale>,
 }
 
 impl Reading {
     ghost use Rattle.session_script.specs.Grammar.{Saying};
     ghost use Rattle.session_script.specs.Memory.{line_asks, is_kept};
-    ghost use Rattle.session_script.specs.Inner.{view_said, Suits, StandsFor, Adds, IsShaped, Reads};
+    ghost use Rattle.session_script.specs.Inner.{view_said, Suits, StandsFor, Adds, IsShaped, Reads, script_read, SaysSomething};
 
     fn new(alloc: Global) -> Reading
         ensures { StandsFor result [] }
     {
-        let parts = Parts {
-            editors: Vec::new(alloc),
-            readers: Vec::new(alloc),
-            before: Vec::new(alloc),
-            during: Vec::new(alloc),
-            settle: None,
-            finales: Vec::new(alloc),
-        };
         Reading {
             alloc,
             number: 0,
             part: Part::Opening,
-            parts,
+            editors: IndexSet::new(alloc),
+            readers: IndexSet::new(alloc),
+            before: Vec::new(alloc),
+            during: Vec::new(alloc),
+            settle: None,
+            finales: Vec::new(alloc),
         }
     }
 
@@ -81,24 +85,24 @@ impl Reading {
             Said::Passed => Ok(()),
             Said::Starts => {
                 self.part = Part::Running;
-                self.parts.before = mem::replace(&mut self.parts.during, Vec::new(self.alloc));
+                self.before = mem::replace(&mut self.during, Vec::new(self.alloc));
                 Ok(())
             }
             Said::Does(task) => {
-                mention(&mut self.parts.editors, task.editor())?;
-                mention(&mut self.parts.readers, task.reader())?;
-                self.parts.during.push(TaskLine { number, task })?;
+                mention(&mut self.editors, task.editor())?;
+                mention(&mut self.readers, task.reader())?;
+                self.during.push(TaskLine { number, task })?;
                 Ok(())
             }
             Said::Settles => {
                 self.part = Part::Closing;
-                self.parts.settle = Some(number);
+                self.settle = Some(number);
                 Ok(())
             }
             Said::Finale(reader, path) => {
                 self.part = Part::Closing;
-                mention(&mut self.parts.readers, Some(reader))?;
-                self.parts.finales.push(Finale {
+                mention(&mut self.readers, Some(reader))?;
+                self.finales.push(Finale {
                     number,
                     reader,
                     path,
@@ -107,19 +111,41 @@ impl Reading {
             }
         }
     }
+
+    /// The parts that the lines make.
+    fn finish(self) -> Result<Parts, NoMemory>
+        ensures script { IfOk result (λ parts. script_of_parts parts ≡ script_read self) }
+        ensures memory { OnErr result (SaysSomething (script_read self)) }
+    {
+        Ok(Parts {
+            editors: listed(self.alloc, &self.editors)?,
+            readers: listed(self.alloc, &self.readers)?,
+            before: self.before,
+            during: self.during,
+            settle: self.settle,
+            finales: self.finales,
+        })
+    }
 }
 
 /// Puts an actor last that isn't there.
-fn mention(actors: &mut Vec<u32>, actor: Option<u32>) -> Result<(), NoMemory>
-    ensures { OnOk result (actors.new.items ≡ with_actor actors.old.items actor) }
+fn mention(actors: &mut IndexSet<u32>, actor: Option<u32>) -> Result<(), NoMemory>
+    ensures { OnOk result (actors.new.keys ≡ with_actor actors.old.keys actor) }
 {
-    let Some(actor) = actor else {
-        return Ok(());
-    };
-    if !actors.contains(&actor) {
-        actors.push(actor)?;
+    if let Some(actor) = actor {
+        actors.insert(actor)?;
     }
     Ok(())
+}
+
+/// The actors, in their order.
+fn listed(alloc: Global, actors: &IndexSet<u32>) -> Result<Vec<u32>, NoMemory>
+    ensures list { MakesList result actors.now.keys }
+    ensures memory { OnErr result (0 < length actors.now.keys) }
+{
+    let mut list = Vec::with_capacity(alloc, actors.len())?;
+    list.extend_from_slice(actors.as_slice())?;
+    Ok(list)
 }
 
 /// Reads a script in its parts, or names its first line that doesn't fit. The language is this project's own.
@@ -147,11 +173,12 @@ fn mention(actors: &mut Vec<u32>, actor: Option<u32>) -> Result<(), NoMemory>
 ///
 /// `BadLine` comes exactly where a line doesn't fit. It names the first such line, counted from 1 and at most by the greatest
 /// `u32`, and that line's first cause: an unknown first word, a line that may not stand there, and then word by word from
-/// the left. `NoMemory` comes only below lines that all fit, at a line that asks for memory: one that fits and does
+/// the left. `NoMemory` comes only where a line below lines that all fit asks for memory: one that fits and does
 /// something, or one whose actor fits and which has a word for its path.
 ///
 /// The text is read once. Memory is taken for each line that does something, for the names of its path and for its file's
-/// bytes, and 4 bytes for each fate, so a line of 14 bytes can ask for 262,144; the filled files are not made here.
+/// bytes, for those whom lines name, and 4 bytes for each fate, so a line of 14 bytes can ask for 262,144; the filled files
+/// are not made here.
 pub fn read_parts(alloc: Global, text: &[u8]) -> Result<Parts, ScriptFault>
     ensures grammar { Gives script_of_parts cause result (meaning_of text.now) }
     ensures ranges { IfOk result (λ parts. IsInRanges (script_of_parts parts)) }
@@ -164,7 +191,7 @@ pub fn read_parts(alloc: Global, text: &[u8]) -> Result<Parts, ScriptFault>
     for line in text.split(|byte| *byte == b'\n') {
         reading.read(line)?;
     }
-    Ok(reading.parts)
+    Ok(reading.finish()?)
 }
 
 /// Reads a script as [`read_parts`] does, as one list of lines. Memory is taken for the list too.

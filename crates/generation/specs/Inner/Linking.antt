@@ -1,27 +1,24 @@
 -- Objects in groups: those that stand in a folder, or that lie in a module, one after another.
-use Rattle.std.specs.Prelude.{◌≡◌, ◌<◌, ◌==◌, ℕ, Bool, false, List, [], map, get_or, Option, Some, None}
-use Rattle.std.specs.Global.{Vec}
+use Rattle.std.specs.Prelude.{◌≡◌, ◌+◌, ◌==◌, ℕ, Bool, List, Option, Some, None}
 use Rattle.std.specs.List.{filter}
+use Rattle.std.specs.List.Sorted.{IsNonDecreasingBy}
 use Rattle.generation.specs.declared.objects.Placed.{Placed}
 use Rattle.generation.specs.declared.links.By.{By}
 use Rattle.generation.specs.declared.links.By.TheVariants.{Folder, Module}
 
--- the group that an object is in
-abbrev pub group_by : By → Placed → Option ℕ
-group_by Folder o = o.spot.parent
-group_by Module o = Some o.«module»
+abbrev pub group_of_parent : Option ℕ → ℕ
+group_of_parent (Some folder) = folder + 1
+group_of_parent None = 0
 
-abbrev pub is_group : ℕ → Option ℕ → Bool
-is_group group (Some g) = g == group
-is_group group None = false
+-- the group that an object is in
+abbrev pub group_by : By → Placed → ℕ
+group_by Folder o = group_of_parent o.spot.parent
+group_by Module o = o.«module»
 
 abbrev pub is_of : By → ℕ → Placed → Bool
-is_of by group o = is_group group (group_by by o)
+is_of by group o = group_by by o == group
 
-abbrev pub IsBelow : ℕ → Option ℕ → Type 0
-IsBelow count (Some g) = g < count
-IsBelow count None = Unit {0}
-
--- under each group's number its members
-abbrev pub AreMembers : By → List Placed → List (Vec Placed) → Type 0
-AreMembers by objects lists = (group : ℕ) → get_or (map (λ m. m.items) lists) group [] ≡ filter (is_of by group) objects
+-- the objects by group, those of each group in their order
+pub record AreMembers (by : By) (objects members : List Placed) : Type 0 where
+  pub rising : IsNonDecreasingBy (group_by by) members
+  pub each : (group : ℕ) → filter (is_of by group) members ≡ filter (is_of by group) objects

@@ -1,30 +1,20 @@
 -- The objects of a tree in one pass over its entries: of each path the names that the path before it didn't have.
-use Rattle.std.specs.Prelude.{◌≡◌, ◌<◌, ℕ, zero, suc, ◌+◌, ◌-◌, ◌++◌, ◌==◌, ◌&&◌, List, [], ◌∷◌, map, get_or, length, take, Some, None, cond, if◌then◌else◌}
-use Rattle.std.specs.List.{All, fold, range_with_len}
+use Rattle.std.specs.Prelude.{◌≡◌, ℕ, zero, suc, ◌+◌, ◌++◌, ◌==◌, ◌&&◌, List, [], ◌∷◌, map, get_or, length, take, Some, None, cond}
+use Rattle.std.specs.List.{All}
 use Rattle.path_tree.specs.Paths.{PathNames, same_name}
-use Rattle.path_tree.specs.Trees.{Tree, is_a_file}
+use Rattle.path_tree.specs.Trees.{Tree, is_a_file, content_in, path_at, IsTree}
+use Rattle.path_tree.specs.Nestings.{Nesting, Empty, FileThen, FolderThen, nested}
 use Rattle.path_tree.specs.declared.entry.Entry.{Entry}
 use Rattle.path_tree.specs.declared.text.TheConstants.{MOST_NAMES}
-use Rattle.generation.specs.Publication.{Spot, gateway_spot}
+use Rattle.generation.specs.Publication.{Spot, below, spots_in, spots_of}
 use Rattle.generation.specs.declared.spots.Spot.{Spot as CodeSpot}
-use Rattle.generation.specs.View.{content_in, path_at, view_spot}
+use Rattle.generation.specs.View.{view_spot}
 use Rattle.generation.specs.Inner.View.{IsSpotIn}
-
--- with how many names two paths begin alike
-abbrev pub shared : PathNames → PathNames → ℕ
-shared (m ∷ p) (n ∷ q) = if same_name m n then suc (shared p q) else 0
-shared _ _ = 0
 
 -- the path of the entry before
 abbrev pub path_before : Tree → ℕ → PathNames
 path_before t zero = []
 path_before t (suc i) = path_at t i
-
--- what was met so far: the path of the last entry, the objects, and by a number of names the last object of so many
-pub record Met : Type 0 where
-  pub last : PathNames
-  pub spots : List Spot
-  pub folders : ℕ → ℕ
 
 -- the object of an entry's names up to the one at a depth
 abbrev pub spot_at : PathNames × Entry → ℕ → ℕ → ℕ → Spot
@@ -36,27 +26,20 @@ spot_at e depth number parent = record {
   parent = Some parent;
 }
 
-abbrev pub one_met : PathNames × Entry → Met → ℕ → Met
-one_met e s depth = record {
-  last = take (suc depth) e.0;
-  spots = s.spots ++ spot_at e depth (length s.spots) (s.folders depth) ∷ [];
-  folders = λ k. if k == suc depth then length s.spots else s.folders k;
-}
+-- What is still to come of a nesting's objects once those of a path and all before them were met: the numbers are those of
+-- the folders that the path leads through, from the one that the nesting stands in on, and of the next object.
+abbrev pub to_come : PathNames → List ℕ → ℕ → Nesting → List Spot
+to_come p [] next g = []
+to_come [] (f ∷ fs) next g = spots_in f next g
+to_come (m ∷ q) (f ∷ fs) next Empty = []
+to_come (m ∷ q) (f ∷ fs) next (FileThen n b rest) = cond (same_name m n) (spots_in f next rest) (spots_in f next (FileThen n b rest))
+to_come (m ∷ q) (f ∷ fs) next (FolderThen n made inside rest) =
+    let down = to_come q fs next inside in
+    cond (same_name m n) (map (below n) down ++ spots_in f (next + length down) rest) (spots_in f next (FolderThen n made inside rest))
 
--- as many names from a depth on
-abbrev pub names_met : PathNames × Entry → Met → ℕ → ℕ → Met
-names_met e s depth n = fold (one_met e) s (range_with_len depth n)
-
-abbrev pub entry_met : Met → PathNames × Entry → Met
-entry_met s e = record (names_met e s (shared s.last e.0) (length e.0 - shared s.last e.0)) { last = e.0 }
-
--- the gateway alone
-abbrev pub none_met : Met
-none_met = record { last = []; spots = gateway_spot ∷ []; folders = λ k. 0 }
-
--- what is kept of what was met
-pub record Keeps (t : Tree) (spots : List CodeSpot) (folders : List ℕ) (s : Met) : Type 0 where
-  pub each : map (view_spot t) spots ≡ s.spots
+-- what is kept once the objects of a path and all before them were met, where these are the entries from the path on
+pub record Keeps (t : Tree) (path : PathNames) (left : Tree) (spots : List CodeSpot) (folders : List ℕ) : Type 0 where
+  pub tree : IsTree t
+  pub each : map (view_spot t) spots ++ to_come path folders (length spots) (nested left) ≡ spots_of t
   pub valid : All (IsSpotIn t) spots
   pub many : length folders ≡ MOST_NAMES + 1
-  pub numbers : (k : ℕ) → k < MOST_NAMES + 1 → get_or folders k 0 ≡ s.folders k

@@ -1,17 +1,12 @@
 -- What is known to stay as it was from one generation to the next.
-use Rattle.std.specs.Prelude.{◌≡◌, ◌<◌, ℕ, Bool, true, false, List, length, map, Some, get_or}
+use Rattle.std.specs.Prelude.{◌≡◌, ℕ, Bool, true, false, List, map, Some, get_or}
 use Rattle.std.specs.List.{flat_map}
 use Rattle.path_tree.specs.Paths.{Bytes}
-use Rattle.path_tree.specs.Trees.{Tree, content_at}
+use Rattle.path_tree.specs.Trees.{Tree}
 use Rattle.biop_object.specs.Names.{Layout, module_in}
 use Rattle.generation.specs.Layouts.{Placed, object_bytes, module_bytes}
-use Rattle.generation.specs.View.{path_at, bytes_at, view_placed}
-use Rattle.generation.specs.Inner.View.{is_file_at}
+use Rattle.generation.specs.View.{view_placed}
 use Rattle.generation.specs.declared.objects.Placed.{Placed as CodePlaced}
-
--- a file that isn't flagged has the bytes that stood at its path before
-abbrev pub AreAsBefore : Tree → Tree → List Bool → Type 0
-AreAsBefore old new flags = (i : ℕ) → i < length new → is_file_at new i ≡ true → get_or flags i true ≡ false → content_at old (path_at new i) ≡ Some (bytes_at new i)
 
 -- the bytes of some of a generation's objects, one after another
 abbrev pub bytes_of_all : ℕ → List Placed → Tree → List CodePlaced → Bytes

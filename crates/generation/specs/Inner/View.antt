@@ -1,7 +1,7 @@
 -- What holds of what a generation is made of, and of what it keeps.
-use Rattle.std.specs.Prelude.{◌≡◌, ◌≤◌, ◌<◌, ℕ, Bool, true, List, zero, suc, length, map, Some, None}
+use Rattle.std.specs.Prelude.{◌≡◌, ◌≤◌, ◌<◌, ℕ, true, List, zero, suc, length, map, Some, None}
 use Rattle.std.specs.List.{All, zip}
-use Rattle.path_tree.specs.Trees.{Tree, IsTree, is_a_file}
+use Rattle.path_tree.specs.Trees.{Tree, IsTree, path_at, is_file_at}
 use Rattle.biop_object.specs.Names.{Layout, module_in}
 use Rattle.biop_object.specs.declared.written.FolderKind.{FolderKind}
 use Rattle.biop_object.specs.declared.written.FolderKind.TheVariants.{Directory, Gateway}
@@ -20,10 +20,7 @@ use Rattle.generation.specs.declared.made.Listed.{Listed}
 use Rattle.generation.specs.declared.made.Generation.TheInside.{Inside}
 use Rattle.dsi_dii.specs.declared.TheConstants.{LAST_GENERATION, MOST_TOTAL_SIZE}
 use Rattle.module_groups.specs.declared.TheConstants.{GREATEST_ID}
-use Rattle.generation.specs.View.{item_at, path_at, view_spot, view_listed, objects_in, view_generation}
-
-abbrev pub is_file_at : Tree → ℕ → Bool
-is_file_at t i = is_a_file (item_at t i).1
+use Rattle.generation.specs.View.{view_spot, view_listed, objects_in, view_generation, IsRising}
 
 pub record IsSpotIn (t : Tree) (s : Spot) : Type 0 where
   pub names : s.names ≤ length (path_at t s.entry)
@@ -70,6 +67,12 @@ pub record ArePlaced (t : Tree) (objects : List PlacedState) : Type 0 where
   pub spots : map (λ o. o.spot) objects ≡ spots_of t
   pub placement : IsPlacement GREATEST_ID (sizes_of t) (map (λ o. o.module_id) objects)
 
+-- an object other than the gateway, in a module
+pub record IsChildIn (t : Tree) (o : Placed) : Type 0 where
+  pub spot : IsSpotIn t o.spot
+  pub named : 1 ≤ o.spot.names
+  pub listed : IsId o.«module»
+
 -- objects that are placed, with their groups
 pub record AreReady (o : Objects) : Type 0 where
   pub placed : ArePlaced o.tree (objects_in o)
@@ -84,11 +87,12 @@ pub record AreReady (o : Objects) : Type 0 where
 pub record IsMade (g : Inside) : Type 0 where
   pub ready : AreReady g.objects
   pub layout : map view_listed g.modules.items ≡ layout_of g.carousel (objects_in g.objects)
+  pub rising : IsRising (map view_listed g.modules.items)
   pub lines : g.lines.items ≡ lines_of (view_generation g)
   pub cycle : AreLines g.lines.items
   pub number : g.number ≤ LAST_GENERATION
   pub counts : All (λ c. c ≤ g.number) g.counts.items
-  pub sizes : All (λ m. length m.1 ≤ MOST_TOTAL_SIZE) (map view_listed g.modules.items)
+  pub sizes : All (λ l. length l.bytes ≤ MOST_TOTAL_SIZE) g.modules.items
 
 -- the gateway is the folder of no names
 abbrev pub kind_in : ℕ → FolderKind

@@ -8,7 +8,6 @@ use Rattle.left_right.specs.declared.Absorb.{Ghosts}
 use Rattle.station.specs.declared.station.Station.{Station}
 use Rattle.carousel_world.specs.Events.{Step}
 use Rattle.session.specs.declared.cast.Cast.{Cast}
-use Rattle.session_script.specs.Scripts.{script_of_parts}
 use Rattle.session.specs.declared.whole.Start.{Start}
 use Rattle.session.specs.Shown.{HasShown}
 use Rattle.session.specs.Inner.Plans.{IsPlanOf}

@@ -1,5 +1,5 @@
-use Rattle.std.proofs.Common.{sym, ◌∙◌, ap, map, get_or, arith}
-use Rattle.generation.proofs.Sharing.{one_seen, rising_at, key_seen, module_seen}
+use Rattle.std.proofs.Common.{◌∙◌, ap, map, get_or, arith}
+use Rattle.generation.proofs.Sharing.{one_seen, rising_at}
 use Rattle.generation.proofs.Words.{take_all, key_in, module_of, old_keys, old_modules, placed_at, path_total, view_spot, view_placed}
 use Rattle.generation.proofs.Weighing.{top_spot}
 use Rattle.generation.proofs.former.former_of.Goals as goal
@@ -11,15 +11,12 @@ loop-spot-preserved c =
     let old = map (view_placed t) c.args.old.now in
     let ss = c.args.spots.now in
     let i = c.loop-spot.spot-index in
-    let h = c.loop-spot.invariant in
-    let object = c.seek-object.ensures.object ∙ sym (h.left i (omega arith) (omega arith)) in
     record {
-      left = λ k le lt. h.left k (omega arith) lt
-          ∙ c.seek-object.ensures.left (view (get_or ss k top_spot)) (λ q e. path_total.trans q (view (get_or ss i top_spot)).path (view (get_or ss k top_spot)).path e (rising_at view ss c.requires.rising i k top_spot (omega arith) lt));
-      keys = rw c.in_ok-push.ensures.items (one_seen (λ s. key_in (placed_at old s)) view ss i top_spot c.loop-spot.keys.items c.key_in.result (omega arith) h.keys
-          (c.key_in.ensures ∙ key_seen t c.seek-object.result.0 ∙ ap key_in object));
-      modules = rw c.in_ok-push-2.ensures.items (one_seen (λ s. module_of (placed_at old s)) view ss i top_spot c.loop-spot.modules.items c.module_in.result (omega arith) h.modules
-          (c.module_in.ensures ∙ module_seen t c.seek-object.result.0 ∙ ap module_of object));
+      before = λ k le lt j d l. path_total.trans _ (view (get_or ss i top_spot)).path _ (c.seek-object.ensures.before j d l) (rising_at view ss c.requires.rising i k top_spot (omega arith) lt);
+      keys = rw c.in_ok-push.ensures.items (one_seen (λ s. key_in (placed_at old s)) view ss i top_spot c.loop-spot.keys.items c.key_in.result (omega arith) c.loop-spot.invariant.keys
+          (c.key_in.ensures t ∙ ap key_in c.seek-object.ensures.object));
+      modules = rw c.in_ok-push-2.ensures.items (one_seen (λ s. module_of (placed_at old s)) view ss i top_spot c.loop-spot.modules.items c.module_in.result (omega arith) c.loop-spot.invariant.modules
+          (c.module_in.ensures t ∙ ap module_of c.seek-object.ensures.object));
     }
 
 pub returns-clause-keys : goal.returns-clause-keys

@@ -1,6 +1,6 @@
-use Rattle.std.proofs.Common.{drop, map}
-use Rattle.generation.proofs.Words.{AreLeft, view_spot, view_placed}
+use Rattle.std.proofs.Common.{take}
+use Rattle.generation.proofs.Words.{AreBefore, view_spot}
 use Rattle.generation.proofs.former.seek.Given as goal
 
 abbrev pub invariant-loop-place : goal.invariant-loop-place
-invariant-loop-place l = AreLeft (view_spot l.tree l.spot).path (map (view_placed l.old_tree) (drop l.from l.old)) (map (view_placed l.old_tree) (drop l.place l.old))
+invariant-loop-place l = AreBefore l.old_tree (view_spot l.tree l.spot).path (take l.place l.old)

@@ -1,21 +1,13 @@
-use Rattle.std.proofs.Common.{◌-◌, ap, length, map, take, drop, arith}
-use Rattle.generation.proofs.Words.{length-map, view_listed}
-use Rattle.generation.proofs.Searching.{places_in_order, listed_cut_is}
-use Rattle.generation.proofs.Grouping.{few_of_group}
+use Rattle.std.proofs.Common.{◌≤◌, ap, length, map, ◌∙◌}
+use Rattle.generation.proofs.Words.{All-filter, MOST_TOTAL_SIZE, Listed, is_in_group, view_listed}
+use Rattle.generation.proofs.Searching.{groups_up, filter_seen}
 use Rattle.generation.proofs.groups.group_modules.Goals as goal
 
-pub slice_bounds-result-count : goal.slice_bounds-result-count
-slice_bounds-result-count c = places_in_order c.args.modules.now c.args.group _ _ c.first_of_group-first.ensures.point c.first_of_group-end.ensures.point c.first_of_group-first.ensures.within
-
-pub slice_bounds-result-start : goal.slice_bounds-result-start
-slice_bounds-result-start c = places_in_order c.args.modules.now c.args.group _ _ c.first_of_group-first.ensures.point c.first_of_group-end.ensures.point c.first_of_group-first.ensures.within
+pub of_key-requires : goal.of_key-requires
+of_key-requires c = groups_up c.args.modules.now c.requires
 
 pub returns-clause-group : goal.returns-clause-group
-returns-clause-group c = listed_cut_is c.args.modules.now c.args.group _ _ c.first_of_group-first.ensures.point c.first_of_group-end.ensures.point c.first_of_group-first.ensures.within c.first_of_group-end.ensures.within
+returns-clause-group c = ap (map view_listed) (rw c.from.ensures at c.of_key.ensures) ∙ filter_seen view_listed (is_in_group c.args.group) c.args.modules.now
 
-pub returns-clause-few : goal.returns-clause-few
-returns-clause-few c =
-    let few = few_of_group (map view_listed c.args.modules.now) c.args.group c.requires.rising c.requires.group.0 in
-    let same = ap length (returns-clause-group c) in
-    let n = length-map (take (c.first_of_group-end.result - c.first_of_group-first.result) (drop c.first_of_group-first.result c.args.modules.now)) view_listed in
-    omega (arith, few, same, n)
+pub returns-clause-sizes : goal.returns-clause-sizes
+returns-clause-sizes c = λ all. rw c.of_key.ensures (All-filter _ (λ (l : Listed). length l.bytes ≤ MOST_TOTAL_SIZE) c.args.modules.now all)

@@ -1,34 +1,19 @@
-use Rattle.std.proofs.Common.{◌<◌, ◌∙◌, sym, subst, arith}
-use Rattle.generation.proofs.Words.{AreMembers, IsBelow, take_all, length-map}
-use Rattle.generation.proofs.Members.{one_put, one_less, none_put, no_object}
+use Rattle.std.proofs.Common.{◌≡◌, ◌∙◌, rules, ap, ◌==◌}
+use Rattle.std.proofs.lemmas.Fn.{always_returns_same}
+use Rattle.std.proofs.lemmas.List.Sorted.{IsNonDecreasingBy-from_sort_by_key}
+use Rattle.generation.proofs.Words.{filter, is_of, group_by}
+use Rattle.generation.proofs.Searching.{stable_at}
+use Rattle.generation.proofs.Members.{of_any}
 use Rattle.generation.proofs.links.gather.Goals as goal
-use Rattle.generation.proofs.links.gather.Goals.{in-Some+in_ok-put, in_default}
-
-pub loop-object-init : goal.loop-object-init
-loop-object-init c = record { many = c.in_ok-lists.ensures.many; are = none_put (λ m. m.items) c.in_ok-lists.lists.items c.in_ok-lists.ensures.none }
-
-pub put-requires : goal.put-requires
-put-requires c =
-    let below : c.in-Some.group < c.args.count = subst (IsBelow c.args.count) (sym c.group_of.ensures ∙ c.in-Some.is) (c.requires c.loop-object.object-index no_object (omega arith)) in
-    omega (arith, below, c.loop-object.invariant.many)
-
-pub loop-object-preserved : goal.loop-object-preserved
-loop-object-preserved c =
-    let i = c.loop-object.object-index in
-    let h = c.loop-object.invariant in
-    elim c.match-group_of.branch [
-      | in-Some+in_ok-put w ↦
-          let below : w.in-Some.group < c.args.count = subst (IsBelow c.args.count) (sym c.group_of.ensures ∙ w.in-Some.is) (c.requires i no_object (omega arith)) in
-          record {
-            many = rw w.lists-is (w.in_ok-put.ensures.many ∙ h.many);
-            are = rw w.lists-is (one_put c.args.by c.args.objects.now c.loop-object.lists.items w.put.new.lists.items i w.in-Some.group no_object (omega arith) (sym c.group_of.ensures ∙ w.in-Some.is)
-                (omega (arith, below, h.many, length-map c.loop-object.lists.items (λ m. m.items))) w.in_ok-put.ensures.put h.are);
-          }
-      | in_default w ↦ record {
-        many = rw w.lists-is h.many;
-        are = rw w.lists-is (one_less c.args.by c.args.objects.now c.loop-object.lists.items i no_object (omega arith) (sym c.group_of.ensures ∙ w.in_default.is) h.are);
-      }
-    ]
 
 pub returns : goal.returns
-returns c = subst (λ os. AreMembers c.args.by os c.loop-object.lists.items) (take_all c.loop-object.object-index c.args.objects.now (omega arith)) c.loop-object.invariant.are
+returns c =
+    let n = group_by c.args.by in
+    let sort = c.in_ok-sort_by_key.ensures in
+    record {
+      rising = IsNonDecreasingBy-from_sort_by_key n _ sort.sorted (λ a r q w. search rules);
+      each = λ k.
+          of_any c.args.by (λ g. filter (λ o. n o == g) c.sort_by_key.new.self.items ≡ filter (λ o. n o == g) c.in_ok-members.members.items)
+          (stable_at n _ _ (sort.stable n (always_returns_same _ (λ a r. r ≡ n a.0.now) _ (λ a r q w. search rules)))) k
+          ∙ ap (filter (is_of c.args.by k)) c.in_ok-members.ensures.items;
+    }

@@ -1,6 +1,6 @@
-use Rattle.std.proofs.Common.{◌≡◌, sym, ◌∙◌, ap, map, arith}
-use Rattle.generation.proofs.Words.{option_map, All-push, module_if_used, objects_in, view_listed, IsMarked}
-use Rattle.generation.proofs.Filling.{fine_as, rises, lines_of_fine, ids_more, ids_same, all_ids}
+use Rattle.std.proofs.Common.{◌≡◌, ◌≤◌, length, sym, ◌∙◌, ap, map, arith, rules}
+use Rattle.generation.proofs.Words.{all_unmap, MOST_TOTAL_SIZE, option_map, All-push, module_if_used, objects_in, view_listed, IsMarked}
+use Rattle.generation.proofs.Filling.{fine_as, lines_of_fine, ids_more, ids_same, all_ids}
 use Rattle.generation.proofs.made.modules_of.Goals as goal
 use Rattle.generation.proofs.made.modules_of.Goals.{in-Some+in_ok-push, in_default}
 
@@ -25,10 +25,11 @@ returns-clause-layout c =
     all_ids c.args.carousel c.args.objects.now c.loop-below.below (map view_listed c.loop-below.modules.items) (end ∙ rw c.deref.ensures.value at c.last_module-below-end.ensures) c.loop-below.invariant.layout
 
 pub returns-clause-rising : goal.returns-clause-rising
-returns-clause-rising c = rises (map view_listed c.loop-below.modules.items) (fine_as c.args.carousel c.args.objects.now (map view_listed c.loop-below.modules.items) (returns-clause-layout c) c.requires.ready)
+returns-clause-rising c = search (rules, (fine_as c.args.carousel c.args.objects.now (map view_listed c.loop-below.modules.items) (returns-clause-layout c) c.requires.ready).form)
 
 pub returns-clause-sizes : goal.returns-clause-sizes
-returns-clause-sizes c = λ k d lt. omega (arith, (fine_as c.args.carousel c.args.objects.now (map view_listed c.loop-below.modules.items) (returns-clause-layout c) c.requires.ready).sizes k d lt)
+returns-clause-sizes c = all_unmap (λ m. length m.1 ≤ MOST_TOTAL_SIZE) view_listed c.loop-below.modules.items
+    (λ k d lt. omega (arith, (fine_as c.args.carousel c.args.objects.now (map view_listed c.loop-below.modules.items) (returns-clause-layout c) c.requires.ready).sizes k d lt))
 
 pub returns-clause-lines : goal.returns-clause-lines
 returns-clause-lines c = lines_of_fine (map view_listed c.loop-below.modules.items) (fine_as c.args.carousel c.args.objects.now (map view_listed c.loop-below.modules.items) (returns-clause-layout c) c.requires.ready)

@@ -1,9 +1,5 @@
-use Rattle.session_script.proofs.Imports.{◌++◌, ◌-◌, map, flat_map, range_with_len, After, finale_line, finale_of, finales_of}
-use Rattle.session_script.proofs.Generating.{AreNumbered}
+use Rattle.session_script.proofs.Imports.{◌≡◌, ◌-◌, map, flat_map, range_with_len, After, finale_line, finales_of, number_lines}
 use Rattle.session_script.proofs.generator.finales.Given as goal
 
 abbrev pub invariant-loop-editor : goal.invariant-loop-editor
-invariant-loop-editor l = AreNumbered finale_line l.fn.first After l.number (flat_map finales_of (range_with_len 1 (l.editor - 1))) l.finales.items
-
-abbrev pub invariant-loop-file : goal.invariant-loop-file
-invariant-loop-file l = AreNumbered finale_line l.fn.first After l.number (flat_map finales_of (range_with_len 1 (l.editor - 1)) ++ map (finale_of l.editor) (range_with_len 0 l.file)) l.finales.items
+invariant-loop-editor l = map finale_line l.finales.items ≡ number_lines l.fn.first After (flat_map finales_of (range_with_len 1 (l.editor - 1)))

@@ -1,11 +1,5 @@
-use Rattle.session_script.proofs.Imports.{◌≡◌, ◌++◌, ◌*◌, ◌-◌, map, flat_map, range_with_len, act_of, fill_of, commit_of, lines_of_editor}
+use Rattle.session_script.proofs.Imports.{◌≡◌, ◌++◌, ◌-◌, map, flat_map, range_with_len, act_of, lines_of_editor}
 use Rattle.session_script.proofs.generator.put_files.Given as goal
 
 abbrev pub invariant-loop-editor : goal.invariant-loop-editor
 invariant-loop-editor l = map act_of l.tasks.items ≡ map act_of l.fn.tasks.items ++ flat_map lines_of_editor (range_with_len 1 (l.editor - 1))
-
-abbrev pub invariant-loop-commit : goal.invariant-loop-commit
-invariant-loop-commit l = map act_of l.tasks.items ≡ map act_of l.initial.tasks.items ++ flat_map (commit_of l.editor) (range_with_len 0 l.commit)
-
-abbrev pub invariant-loop-place : goal.invariant-loop-place
-invariant-loop-place l = map act_of l.tasks.items ≡ map act_of l.initial.tasks.items ++ map (fill_of l.editor) (range_with_len (8 * l.commit) l.place)

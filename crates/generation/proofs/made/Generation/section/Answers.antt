@@ -1,6 +1,4 @@
-use Rattle.generation.proofs.Words.{view_listed, section_of}
-use Rattle.generation.proofs.Grouping.{dii_listed, rising_of}
-use Rattle.std.proofs.Common.{map, sym}
+use Rattle.generation.proofs.Grouping.{dii_listed}
 use Rattle.generation.proofs.Writing.{dii_arm}
 use Rattle.generation.proofs.made.Generation.section.Goals as goal
 
@@ -11,10 +9,10 @@ pub dii_section-requires-clause-group : goal.dii_section-requires-clause-group
 dii_section-requires-clause-group c = let is = dii_listed c.args.self.now c.in-Dii.group (rw c.in-Dii.is at c.requires) in (is.above, is.within)
 
 pub dii_section-requires-clause-rising : goal.dii_section-requires-clause-rising
-dii_section-requires-clause-rising c = rw c.deref.ensures.value (rising_of (map view_listed c.self.inside.modules.items) (rw c.self.invariant.lines at c.self.invariant.cycle))
+dii_section-requires-clause-rising c = rw c.deref.ensures.value c.self.invariant.rising
 
 pub block_of_module-requires-clause-rising : goal.block_of_module-requires-clause-rising
-block_of_module-requires-clause-rising c = rw c.deref-in-Block.ensures.value (rising_of (map view_listed c.self.inside.modules.items) (rw c.self.invariant.lines at c.self.invariant.cycle))
+block_of_module-requires-clause-rising c = rw c.deref-in-Block.ensures.value c.self.invariant.rising
 
 pub returns-in-Dii-clause-exact : goal.returns-in-Dii-clause-exact
 returns-in-Dii-clause-exact c = rw (← c.self.view_is, c.in-Dii.is)

@@ -1,7 +1,8 @@
-use Rattle.std.proofs.Common.{refl}
-use Rattle.generation.proofs.Words.{ByFolder}
-use Rattle.generation.proofs.Members.{members_are}
+use Rattle.std.proofs.Common.{◌∙◌}
 use Rattle.generation.proofs.objects.Objects.in_folder.Goals as goal
 
+pub of_key-requires : goal.of_key-requires
+of_key-requires c = rw c.deref.ensures.value c.requires.folders.rising
+
 pub returns : goal.returns
-returns c = members_are ByFolder c.args.self.now.all.items c.members_of.result.now c.args.self.now.folders.items c.deref.result.now c.args.number c.args.number c.requires.folders c.deref.ensures.value refl c.members_of.ensures
+returns c = rw c.deref.ensures.value at c.of_key.ensures ∙ c.requires.folders.each _
