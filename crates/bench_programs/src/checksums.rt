@@ -1,12 +1,39 @@
-// The CRC of the same bytes again and again.
+// The CRC of pieces of the same bytes: again and again, and beside its meaning bit by bit.
 
-use section_crc::crc;
+use section_crc::{crc, crc_step};
 
-/// The CRCs of the bytes from each of the first places on, joined by exclusive or, so that no two do the same work.
-pub fn joined(bytes: &[u8], rounds: u32) -> u32 {
+/// From how many places on pieces begin, one after another.
+const PLACES: usize = 16;
+
+/// The most bytes of a piece whose CRC is compared.
+const LONGEST: usize = 9_000;
+
+/// The CRCs of `rounds` pieces of at most `length` bytes, joined by exclusive or. Piece k begins at byte k % 16.
+pub fn joined(bytes: &[u8], rounds: u32, length: usize) -> u32 {
     let mut joined = 0;
-    for first in 0..rounds as usize {
-        joined ^= crc(&bytes[first.min(bytes.len())..]);
+    for round in 0..rounds as usize {
+        let behind = &bytes[(round % PLACES).min(bytes.len())..];
+        joined ^= crc(&behind[..length.min(behind.len())]);
     }
     joined
+}
+
+/// How many pieces of 0 to 9,000 bytes, from each of the first 16 bytes on, have the CRC that bits one after another give.
+pub fn agreeing(bytes: &[u8]) -> u64 {
+    let mut agree: u64 = 0;
+    for first in 0..PLACES {
+        agree = agree.wrapping_add(agreeing_from(&bytes[first.min(bytes.len())..]));
+    }
+    agree
+}
+
+/// The same from the first byte on.
+fn agreeing_from(bytes: &[u8]) -> u64 {
+    let mut state = 0xFFFF_FFFF;
+    let mut agree = u64::from(crc(&[]) == state);
+    for last in 0..LONGEST.min(bytes.len()) {
+        state = crc_step(state, bytes[last]);
+        agree = agree.wrapping_add(u64::from(crc(&bytes[..=last]) == state));
+    }
+    agree
 }

@@ -1,8 +1,11 @@
 //! What the scripts under bench/ measure or try from inside. The first word says which work, and what is printed shows that it
 //! was done.
 //!
-//! `crc ROUNDS`: takes the CRC of all of standard input, in one round where there is no number. Round k leaves out the first k
-//! bytes, so that no two rounds do the same work. What is printed is the CRCs of all rounds, joined by exclusive or.
+//! `crc ROUNDS LENGTH`: each round takes the CRC of LENGTH bytes of standard input, or of all where LENGTH is 0. Round k begins
+//! at byte k % 16. What is printed is the CRCs of all rounds, joined by exclusive or.
+//!
+//! `crc-bits`: compares the CRC of each piece of 0 to 9,000 bytes of standard input, from each of its first 16 bytes on, with the
+//! CRC that bits one after another give. What is printed is how many agree.
 //!
 //! `commits FILES BYTES COMMITS`: the first commit puts so many files of so many bytes, each with other bytes, and a small file
 //! of 4 bytes; each of the others puts 4 other bytes as the small file. With no commit, only the edits of the first are made.
@@ -66,7 +69,7 @@ fn counted<R: Threads + Wait + Sync>(
         Work::Station => station_commits::accepted_by(rt, alloc, first.min(64), second),
         Work::Sections if first == 1 => station_sections::made_alone(alloc, second),
         Work::Sections => station_sections::made_by_two(rt, alloc, second),
-        Work::Crc | Work::Each | Work::Opens | Work::Session => opens::opened(
+        Work::Crc | Work::CrcBits | Work::Each | Work::Opens | Work::Session => opens::opened(
             rt,
             alloc,
             opens::Request {
@@ -86,21 +89,39 @@ fn print_count(rt: &HostRuntime, count: Result<u64, NoMemory>) -> io::Result<()>
     }
 }
 
-/// Takes the CRC of standard input, and prints it.
-fn print_crc(rt: &HostRuntime, rounds: u32) -> io::Result<()> {
+/// The bytes of standard input.
+fn input(rt: &HostRuntime) -> io::Result<Vec<u8>> {
     let mut bytes = Vec::new(rt.alloc());
     rt.stdin().read_to_end(&mut bytes)?;
-    let joined = checksums::joined(&bytes, rounds);
+    Ok(bytes)
+}
+
+/// Takes CRCs of standard input, of `length` bytes each or of all where that is 0, and prints them joined.
+fn print_crc(rt: &HostRuntime, rounds: u32, length: u32) -> io::Result<()> {
+    let bytes = input(rt)?;
+    let length = if length == 0 {
+        bytes.len()
+    } else {
+        length as usize
+    };
+    let joined = checksums::joined(&bytes, rounds, length);
     println!(rt; "{joined:08x}")
+}
+
+/// Compares CRCs of standard input with those bit by bit, and prints how many agree.
+fn print_crc_bits(rt: &HostRuntime) -> io::Result<()> {
+    let agree = checksums::agreeing(&input(rt)?);
+    println!(rt; "{agree}")
 }
 
 fn main(rt: HostRuntime) -> io::Result<ExitCode> {
     let alloc = rt.alloc();
     let Request { work, numbers } = read_request(&rt)?;
     let printed = match work {
-        Work::Crc => print_crc(&rt, numbers[0]),
+        Work::Crc => print_crc(&rt, numbers[0], numbers[1]),
+        Work::CrcBits => print_crc_bits(&rt),
         Work::Each => {
-            print_crc(&rt, 2)?;
+            print_crc(&rt, 2, 0)?;
             print_count(&rt, counted(&rt, alloc, Work::Commits, [20, 700, 3]))?;
             print_count(&rt, counted(&rt, alloc, Work::Station, [2, 1, 0]))?;
             print_count(&rt, counted(&rt, alloc, Work::Opens, [2, 1, 1]))

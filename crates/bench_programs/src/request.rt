@@ -7,6 +7,7 @@ use std::{env, io};
 pub enum Work {
     Each,
     Crc,
+    CrcBits,
     Commits,
     Station,
     Sections,
@@ -25,6 +26,7 @@ pub struct Request {
 fn work_of(word: &str) -> Work {
     match word {
         "crc" => Work::Crc,
+        "crc-bits" => Work::CrcBits,
         "commits" => Work::Commits,
         "station" => Work::Station,
         "opens" => Work::Opens,
@@ -33,7 +35,7 @@ fn work_of(word: &str) -> Work {
     }
 }
 
-/// The words of the process; a number that is missing is 0, but the rounds of `crc` are then 1.
+/// The words of the process; a number that is missing is 0.
 pub fn read_request(rt: &HostRuntime) -> io::Result<Request> {
     let mut request = Request {
         work: Work::Each,
