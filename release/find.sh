@@ -191,7 +191,8 @@ find_program() {
     fi
     { read -r folder && read -r sources && read -r kit; } 2>/dev/null <"$chosen"
     program=$top/$folder
-    tell_choice | cmp -s - "$chosen" && return
+    # A trap between the two commands of a pipe would have bash leave out the second one.
+    [ -n "$(tell_choice | cmp -s - "$chosen" || echo other)" ] || return 0
     program=''
     choose_and_keep "$chosen"
 }
