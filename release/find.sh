@@ -107,6 +107,12 @@ note_build() {
     write_sources "$out" "$1" "${named:-unknown}"
 }
 
+# Reads SOURCES of the program that `rt ci` left, if it is of the sources with this sum.
+read_build() {
+    [ -e "$out/SOURCES" ] || note_build "$1"
+    read_sources "$out" && [ "$sources" = "$1" ]
+}
+
 # ---- The choice
 
 # Why the program in a folder can't run here. Prints nothing where it can.
@@ -140,12 +146,10 @@ take() {
 
 # Takes the program that `rt ci` left of these sources, else the one in release/.
 choose() {
-    local sum now folder
+    local sum now
     now=$(sum_of_the_sources)
-    [ -e "$out/SOURCES" ] || note_build "$now"
-    for folder in "$out" "$place"; do
-        read_sources "$folder" && [ "$sources" = "$now" ] && take "$folder" && return
-    done
+    read_build "$now" && take "$out" && return
+    read_sources "$place" && [ "$sources" = "$now" ] && take "$place" && return
     if [ -n "$fault" ]; then
         return 1
     elif [ -e "$place/SOURCES" ]; then
