@@ -9,6 +9,7 @@ top=${place%/release}
 out=$top/crates/carousel/out
 version=0.1
 alone=' carousel operating status ' # these pages of help are no command's
+unset CDPATH                        # else cd may go to another folder
 
 program='' # the program that was found,
 sources='' # the sum of its sources
@@ -163,6 +164,7 @@ choose() {
 # The choice, and what changes whenever anything does that it depends on: the system, and inode and
 # time of change of each source and each program. No program can set these.
 tell_choice() {
+    local -x LC_ALL=C
     printf '%s\n' "${program#"$top/"}" "$sources" "$kit"
     uname -m
     getconf GNU_LIBC_VERSION
@@ -172,6 +174,7 @@ tell_choice() {
 # Chooses anew, and keeps the choice for later calls. It isn't kept if something changed since the
 # choice began: each file has to be older than a new one, also where a clock is coarse.
 choose_and_keep() {
+    local -x LC_ALL=C
     local new=$1.$$ began
     { [ -d "$out" ] || mkdir "$out"; } 2>/dev/null && : 2>/dev/null >"$new"
     began=$(find "$new" -printf '%C@' 2>/dev/null)
