@@ -80,7 +80,8 @@ read_sources() {
 # Writes SOURCES for the program in folder $1, with the sum of its sources and its kit.
 write_sources() {
     local new=$1/SOURCES.$$ sum
-    sum=$(sum_of "$1/carousel") && printf '%s\n' "$2" "$3" "$sum" >"$new" && mv -f "$new" "$1/SOURCES"
+    sum=$(sum_of "$1/carousel") && printf '%s\n' "$2" "$3" "$sum" >"$new" &&
+        mv -f "$new" "$1/SOURCES"
 } 2>/dev/null
 
 kit_here() {
