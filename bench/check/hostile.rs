@@ -1,5 +1,5 @@
 //! Feeds streams with everything wrong in them to the program, and compares all that it writes with the plain receiver's
-//! reading of the same bytes. bench/hostile builds and describes it.
+//! reading of the same bytes. bench/check/hostile builds and describes it.
 //!
 //!     hostile PROGRAM SECONDS FIRST MOST     pieces of up to MOST bytes, from the number FIRST on
 
@@ -301,7 +301,7 @@ impl Run<'_> {
         self.tally.count_output(asked, &wanted);
         let is_same = run(self.program, &asked.words(), reading.input, step_for(reading.input, chance))? == wanted;
         if !is_same {
-            let again = if self.most <= air::SMALL { "bench/hostile --small 0" } else { "bench/hostile 0" };
+            let again = if self.most <= air::SMALL { "bench/check/hostile --small 0" } else { "bench/check/hostile 0" };
             report(self.program, again, number, asked, reading.input)?;
         }
         Ok(is_same)

@@ -1,4 +1,4 @@
-"""What `air` writes and says of a folder that changes, for bench/playout and the models' own tests: by a walk of its own over the folder,
+"""What `air` writes and says of a folder that changes, for bench/check/air and the models' own tests: by a walk of its own over the folder,
 and the independent writer's generations, each a group of sections. It shares no code with the crates.
 
 Before which cycle a change was read is taken from the notices; all else follows from the readings, and is compared: each notice, and each
@@ -10,11 +10,9 @@ import os
 import re
 from collections import namedtuple
 
-import planning
-import receiver
-import streams
-from changing import cost
-from rehearsal import Tuner
+from models import plan, receiver, streams
+from models.changes import cost
+from models.rehearse import Tuner
 
 MOST_NUMBER = 16_383
 PACKET = 188
@@ -29,10 +27,10 @@ Change = namedtuple("Change", "written reading")
 def read(folder):
     folder = os.fsencode(folder)
     try:
-        files = planning.Walk(folder).files
-        planning.judge(folder, files)
+        files = plan.Walk(folder).files
+        plan.judge(folder, files)
         return Reading(files, None)
-    except planning.Stopped as stopped:
+    except plan.Stopped as stopped:
         words = stopped.line.split(" ")
         return Reading(None, " ".join(words[:2] if stopped.status == 6 else words[1:3]))
 

@@ -1,4 +1,4 @@
-"""Sites, and small changes of them, for bench/changes and bench/playout; and what of a changed site a receiver fetches again."""
+"""Sites, and small changes of them, for bench/speed/changes and bench/check/air; and what of a changed site a receiver fetches again."""
 
 import os
 import shutil

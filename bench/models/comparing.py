@@ -1,15 +1,14 @@
-"""What bench/turns and bench/many-diis share: receptions are held against what the models owe by themselves, and what the program
+"""What bench/check/receptions and bench/check/receptions --many share: receptions are held against what the models owe by themselves, and what the program
 writes of each against the independent receiver.
 
 The packet by packet rules have to cut what the definition cuts, taking a turn after the other to hold what the look back holds, and
 under the premises a lawful carousel's answers are those of its trees.
 """
 
-import program
-import receiver
-import receptions
-from paths import printed
-from rehearsal import Tuner
+from models import receiver, receptions
+from models.paths import printed
+from models.rehearse import Tuner
+from tools import program
 
 
 def model_holds(case, looks):

@@ -2,9 +2,9 @@
 
 import os
 
-import receiver
-from paths import escaped, is_name, printed
-from program import Ended
+from models import receiver
+from models.paths import escaped, is_name, printed
+from tools.program import Ended
 
 # The name under which a file is written, before it has its own.
 PART = b".carousel-part"

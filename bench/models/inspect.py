@@ -2,9 +2,9 @@
 
 from collections import Counter
 
-import receiver
-from paths import printed
-from receiver import Dii, Dsi
+from models import receiver
+from models.paths import printed
+from models.receiver import Dii, Dsi
 
 COUNTS = (
     "packets no_sync errored scrambled reserved bad_field other_pid no_payload duplicates jumps orphans bad_pointer cut oversize short_tail"

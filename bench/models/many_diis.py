@@ -1,4 +1,4 @@
-"""Receptions of carousels whose modules are listed by several DIIs, for bench/many-diis and the models' own tests.
+"""Receptions of carousels whose modules are listed by several DIIs, for bench/check/receptions --many and the models' own tests.
 
 The first cases are lawful carousels of 2, 3 and 4 DIIs, one for each order in which their DIIs can come. After these, even numbers
 are lawful carousels of 1 to 16 DIIs, and odd ones are of other senders: DIIs of any identifications that share the modules in any
@@ -8,11 +8,9 @@ manner, and DIIs that can't be held beside them.
 import itertools
 import random
 
-import receiver
-import receptions
-import streams
-from receptions import UNHURT, Air, Broadcaster, Case, some_content, some_paths, way
-from streams import DII, DSI, is_block, key_bytes
+from models import receiver, receptions, streams
+from models.receptions import UNHURT, Air, Broadcaster, Case, some_content, some_paths, way
+from models.streams import DII, DSI, is_block, key_bytes
 
 ORDERS = [order for count in (2, 3, 4) for order in itertools.permutations(range(count))]
 

@@ -1,7 +1,7 @@
-"""Multiplexes of several carousels, for bench/mounts and the models' own tests: tables of mounts, what is sent on each PID and what comes
+"""Multiplexes of several carousels, for bench/check/mounts and the models' own tests: tables of mounts, what is sent on each PID and what comes
 of it, and what is written under a table.
 
-A case has 1 to 16 carousels, each on a PID of its own: published trees and receptions as bench/turns and bench/many-diis have them, with
+A case has 1 to 16 carousels, each on a PID of its own: published trees and receptions as bench/check/receptions and bench/check/receptions --many have them, with
 what was lost and damaged on the way. They come one after the other, packet by packet in turn, or mixed by chance. Now and then all
 packets of one are lost, or the table doesn't have it.
 """
@@ -11,11 +11,8 @@ import random
 import re
 from collections import namedtuple
 
-import many
-import receiver
-import receptions
-import streams
-from paths import DEEPEST, is_name
+from models import many_diis, receiver, receptions, streams
+from models.paths import DEEPEST, is_name
 
 MOST_MOUNTS, MOST_NAME, MOST_PID = 16, 32, 8190
 
@@ -127,7 +124,7 @@ def some_carousel(chance):
     kind = chance.choice(["tree", "tree", "tree", "turns", "turns", "many"])
     if kind == "tree":
         return some_tree(chance)
-    it = receptions.case(chance.randrange(10_000)) if kind == "turns" else many.case(chance.randrange(len(many.ORDERS) + 1, 10_000))
+    it = receptions.case(chance.randrange(10_000)) if kind == "turns" else many_diis.case(chance.randrange(len(many_diis.ORDERS) + 1, 10_000))
     return it.packets, it.paths, None
 
 

@@ -1,4 +1,4 @@
-"""The command `air` at work on a pipe, for bench/playout. Nothing of its output is read but what is asked for, so that it has to wait; and
+"""The command `air` at work on a pipe, for bench/check/air. Nothing of its output is read but what is asked for, so that it has to wait; and
 each change of its folder is kept beside how much it had written then.
 """
 
@@ -10,10 +10,9 @@ import select
 import subprocess
 import termios
 
-import playing
-import streams
-from playing import Change, History, Wrong
-from program import Ended
+from models import air, streams
+from models.air import Change, History, Wrong
+from tools.program import Ended
 
 PAGE, PIECE, WAIT = 4096, 65_536, 0.0005
 
@@ -27,7 +26,7 @@ class OnAir:
         self.folder, self.cycles, self.pid, self.carousel, self.held = folder, cycles, pid, carousel, held
         self.words = ["air", str(pid), folder, str(carousel), str(cycles)]
         self.out, self.lines, self.rest, self.missed = bytearray(), [], b"", 0
-        self.changes = [Change(0, seen_as or playing.read(folder))]
+        self.changes = [Change(0, seen_as or air.read(folder))]
         self.tree = self.changes[0].reading.files
         self.pipe, inner = os.pipe()
         if held:
@@ -101,7 +100,7 @@ class OnAir:
         read then, where this process may read more. Where the program ended before, the change is missed, and counts no more."""
         written, told = self.settle() if self.held else self.begin(), len(self.lines)
         make()
-        change = Change(written, seen_as or playing.read(self.folder))
+        change = Change(written, seen_as or air.read(self.folder))
         owes = change.reading.cause is not None or change.reading.files != self.tree
         while owes and len(self.lines) == told and self.open:
             self.hear(PAGE)

@@ -3,8 +3,8 @@
 import os
 import stat
 
-import streams
-from paths import DEEPEST, LONGEST, is_name, printed
+from models import streams
+from models.paths import DEEPEST, LONGEST, is_name, printed
 
 MOST_CONTENT = 16_777_216
 MOST_PUT = 536_870_912

@@ -1,6 +1,6 @@
 """PAT and PMT by themselves: a writer, packets of several PIDs, and a model that looks back over all packets for a carousel's PID."""
 
-import streams
+from models import streams
 
 
 # ---- a writer of tables

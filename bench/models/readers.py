@@ -5,8 +5,8 @@ import os
 import shutil
 import subprocess
 
-import program
-import receiver
+from models import receiver
+from tools import program
 
 DVBPSI = r"""
 #include <stdbool.h>

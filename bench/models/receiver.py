@@ -7,8 +7,8 @@ question, and the cuts of a stream look forward from each opening; `Demux` is th
 from collections import Counter, namedtuple
 from functools import lru_cache
 
-from paths import DEEPEST, escaped, is_name, printed
-from streams import crc
+from models.paths import DEEPEST, escaped, is_name, printed
+from models.streams import crc
 
 PACKET = 188
 MOST_SECTION = 4093

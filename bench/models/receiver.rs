@@ -1,5 +1,5 @@
 //! A plain receiver in Rust, by the same rules as the proved program, written straightforwardly and with nothing but std.
-//! bench/speed compares its time with the program's, and bench/hostile its answers.
+//! bench/speed/speed compares its time with the program's, and bench/check/hostile its answers.
 
 use std::collections::{HashMap, HashSet};
 use std::io::{self, Write};

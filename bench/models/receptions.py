@@ -1,4 +1,4 @@
-"""Random receptions for bench/turns, bench/many-diis and the models' own tests: what is sent of many generations, and what comes of it.
+"""Random receptions for bench/check/receptions, bench/check/receptions --many and the models' own tests: what is sent of many generations, and what comes of it.
 
 A lawful case is a carousel as it should be: trees, one generation after another, some of which are sent in whole or in part,
 in any order within a generation. A wild case is made of control messages and blocks that fit together only now and then.
@@ -11,9 +11,8 @@ from collections import namedtuple
 from dataclasses import replace
 from functools import partial
 
-import receiver
-import streams
-from streams import DSI, FIRST_DII, is_block
+from models import receiver, streams
+from models.streams import DSI, FIRST_DII, is_block
 
 PID = 256
 
@@ -151,7 +150,7 @@ def edited(files, chance):
     return files
 
 
-# The modules of these receptions, which have one DII; many.py has those with several.
+# The modules of these receptions, which have one DII; many_diis.py has those with several.
 ONE_GROUP = range(1, streams.MOST_LINES + 1)
 
 

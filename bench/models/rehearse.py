@@ -7,10 +7,9 @@ Here the receiver goes on from candidate to candidate, for speed; the models' ow
 import re
 from collections import namedtuple
 
-import receiver
-import streams
-from paths import BadPath, parsed, printed
-from receiver import Ddb, Dii, Dsi
+from models import receiver, streams
+from models.paths import BadPath, parsed, printed
+from models.receiver import Ddb, Dii, Dsi
 
 PID = 256
 MOST_SCRIPT = 16_777_216

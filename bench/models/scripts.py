@@ -1,4 +1,4 @@
-"""Random scripts for bench/rehearse, bench/session and the models' own tests, each by its number."""
+"""Random scripts for bench/check/rehearse, bench/check/session and the models' own tests, each by its number."""
 
 import random
 

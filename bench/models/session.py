@@ -1,17 +1,16 @@
 """An independent model of the command `session`, for tests alone: which reports are those of a session of a script.
 
 A session has many reports, since its threads may meet in any order. `check` refuses a text that is none of them, and `played`
-makes one of them by chance. What an event replies is the model's of rehearsal.py.
+makes one of them by chance. What an event replies is the model's of rehearse.py.
 """
 
 import collections
 from collections import namedtuple
 
-import rehearsal
-import streams
-from paths import printed
-from receptions import looked_up
-from rehearsal import Commit, Draw, World, answer_text
+from models import rehearse, streams
+from models.paths import printed
+from models.receptions import looked_up
+from models.rehearse import Commit, Draw, World, answer_text
 
 # While so few generations are published in all, no section can be taken for one of another generation.
 NEAR = 255
@@ -28,7 +27,7 @@ class Script:
     """A script by its actors: each editor's commits, the draws and each reader's opens, in written order."""
 
     def __init__(self, text):
-        steps = [*rehearsal.steps_of(text)]
+        steps = [*rehearse.steps_of(text)]
         self.commits, self.draws, self.opens = {}, [], {}
         self.is_settled = (b"settle", None) in steps
         lines = sum(isinstance(event, Draw) for _, event in steps)
@@ -42,7 +41,7 @@ class Script:
             elif keyword == b"draw":
                 self.draws.append(event)
             elif keyword == b"settle":
-                self.draws += rehearsal.settling()
+                self.draws += rehearse.settling()
             elif keyword == b"finale":
                 self.look(event, len(self.draws), len(self.draws), True)
             elif keyword == b"open" and place < start:
@@ -88,7 +87,7 @@ class History:
         event = waiting.popleft()
         self.enter(event)
         self.step(event, line)
-        self.last_reader = rehearsal.MOST_ACTOR + 1
+        self.last_reader = rehearse.MOST_ACTOR + 1
 
     def draw(self, line):
         if not self.draws:
@@ -230,4 +229,4 @@ def played(text, chance, rules=streams.BUILT):
 
 def session(text, chance, rules=streams.BUILT):
     """The status, the report and the line on standard error of a session."""
-    return rehearsal.ended(text, lambda it: played(it, chance, rules))
+    return rehearse.ended(text, lambda it: played(it, chance, rules))

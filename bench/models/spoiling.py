@@ -1,4 +1,4 @@
-"""Ways in which a folder gives no tree, for bench/playout: each as the cause that is told, a call that brings it about, and one that mends it.
+"""Ways in which a folder gives no tree, for bench/check/air: each as the cause that is told, a call that brings it about, and one that mends it.
 The cause is None where any process finds it.
 """
 

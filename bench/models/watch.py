@@ -1,7 +1,7 @@
-"""What is told of paths whose answers change, for bench/watch and the models' own tests: by the independent receiver, which looks back over
+"""What is told of paths whose answers change, for bench/check/watch and the models' own tests: by the independent receiver, which looks back over
 all that came after each section anew; and receptions to watch.
 
-A case is a reception as bench/turns and bench/many-diis have them, one of a carousel that has a file or folder /now, or one of a
+A case is a reception as bench/check/receptions and bench/check/receptions --many have them, one of a carousel that has a file or folder /now, or one of a
 carousel that turns back and forth: some of its generations come again and again, in any order. Now and then it stands on another PID, among
 packets of another case, or bits of it are damaged at the end, whatever they are of.
 """
@@ -10,14 +10,10 @@ import itertools
 import random
 from collections import namedtuple
 
-import many
-import multiplex
-import receiver
-import receptions
-import streams
-from paths import DEEPEST, is_name, printed
-from receptions import Air, Broadcaster, way
-from rehearsal import Tuner
+from models import many_diis, mounts, receiver, receptions, streams
+from models.paths import DEEPEST, is_name, printed
+from models.receptions import Air, Broadcaster, way
+from models.rehearse import Tuner
 
 # The program's two watchers, by their prefixes, and how many paths it watches at most.
 PREFIXES = ((), (b"now",))
@@ -121,7 +117,7 @@ def reception(chance, number):
         return back_and_forth(chance)
     if kind == 2:
         return receptions.case(chance.randrange(10_000))
-    return many.case(chance.randrange(len(many.ORDERS) + 1, 10_000))
+    return many_diis.case(chance.randrange(len(many_diis.ORDERS) + 1, 10_000))
 
 
 def asked(chance, paths):
@@ -159,7 +155,7 @@ def case(number):
     packets, pid, kind = it.packets, receptions.PID, chance.random()
     if kind < 0.2:
         pid, others = chance.choice([0, 31, 257, 512, 8190]), reception(chance, chance.randrange(4)).packets
-        packets = multiplex.joined(chance, [[*multiplex.on_pid(packets, pid)], others])
+        packets = mounts.joined(chance, [[*mounts.on_pid(packets, pid)], others])
     elif kind < 0.4 and packets:
         packets = damaged(chance, packets)
     return Case(packets, pid, asked(chance, it.paths))

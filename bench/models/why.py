@@ -4,7 +4,7 @@ import os
 import re
 import string
 
-from paths import BadPath, parsed
+from models.paths import BadPath, parsed
 
 LETTERS = set(string.ascii_lowercase + string.digits)
 

@@ -1,4 +1,4 @@
-//! An independent CRC of sections, eight bytes a step by tables, for the comparison in bench/crc alone.
+//! An independent CRC of sections, eight bytes a step by tables, for the comparison in bench/speed/speed --crc alone.
 
 use std::io::Read;
 

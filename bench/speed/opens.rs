@@ -1,4 +1,4 @@
-//! Plain readers under one `std::sync::Mutex`, for the comparison in bench/opens alone: `READERS ROUNDS`. In each round so many
+//! Plain readers under one `std::sync::Mutex`, for the comparison in bench/speed/opens alone: `READERS ROUNDS`. In each round so many
 //! threads make 120,000 opens in all, by turns of a file, of its folder and of a name that isn't there, while a feeder replaces
 //! the shot until all of them are through. What is printed is how many opens answered the file.
 //!

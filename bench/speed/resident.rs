@@ -1,4 +1,4 @@
-//! Runs a command, writes to a file how many bytes it had resident at most, and ends with its status. For bench/measure.py:
+//! Runs a command, writes to a file how many bytes it had resident at most, and ends with its status. For bench/tools/measure.py:
 //! the system counts what the process that starts a command has resident for the command too, and this one has little.
 //!
 //!     resident FILE COMMAND..

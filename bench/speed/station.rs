@@ -1,4 +1,4 @@
-//! A plain catalogue under `std::sync::Mutex`, for the comparison in bench/station alone: `EDITORS ROUNDS`. In each round
+//! A plain catalogue under `std::sync::Mutex`, for the comparison in bench/speed/station alone: `EDITORS ROUNDS`. In each round
 //! so many threads make 16,000 commits in all, each a put of 8 bytes as the same file. With 0 editors there is no lock.
 //! What is printed is how many commits were accepted.
 //!

@@ -1,4 +1,4 @@
-//! Streams of transport packets with everything wrong in them that a receiver can meet, for bench/hostile. What is sent and
+//! Streams of transport packets with everything wrong in them that a receiver can meet, for bench/check/hostile. What is sent and
 //! what befalls it comes from a number alone, so that each stream can be made again.
 
 mod carousels;
