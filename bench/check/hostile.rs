@@ -3,7 +3,9 @@
 //!
 //!     hostile PROGRAM SECONDS FIRST MOST     pieces of up to MOST bytes, from the number FIRST on
 
+#[path = "hostile_streams/mod.rs"]
 mod air;
+#[path = "../models/receiver.rs"]
 mod receiver;
 
 use std::collections::BTreeMap;

@@ -13,11 +13,14 @@ It shares no code with the crates, so that what they read of its streams says so
     streams.py --damaged FOLDER > STREAM     a cycle of the folder's files and a larger one, with losses and damage
 """
 
+import sys
+
+if __name__ == "__main__":
+    sys.path[0] += "/.."  # and not this folder, whose inspect.py is a model
 import itertools
 import os
 import struct
 import subprocess
-import sys
 import zlib
 from dataclasses import dataclass, field, replace
 from functools import partial

@@ -2,7 +2,9 @@
 //! `open sections PATH..`, `list PID`, `watch PID PATH..` and `publish FOLDER CAROUSEL CYCLES`, as ./carousel has them, but that
 //! `watch` writes in large pieces.
 
+#[path = "../models/publisher.rs"]
 mod publisher;
+#[path = "../models/receiver.rs"]
 mod receiver;
 
 use std::io::{self, BufWriter, Read, Write};

@@ -1,7 +1,8 @@
-"""What the scripts of this folder share: where the program is, how it is run, and how differences are reported.
+"""What the scripts under bench/ share: where the program is, how it is run, and how differences are
+reported.
 
-The program is the whole one that ./carousel builds, or the one that the environment variable CAROUSEL names; that of
-crates/bench_programs is the one that BENCH_PROGRAMS names, or rt builds it.
+The program is the one that the environment variable CAROUSEL names, or the one that ./carousel runs.
+That of crates/bench_programs is the one that BENCH_PROGRAMS names, or rt builds it.
 """
 
 import os
@@ -11,58 +12,85 @@ import sys
 import tempfile
 from collections import namedtuple
 
-TOP = os.path.dirname(os.path.dirname(os.path.abspath(__file__)))
-WORK = os.path.join(TOP, "bench", "work")
+TOP = os.path.dirname(os.path.dirname(os.path.dirname(os.path.abspath(__file__))))
+BENCH = os.path.join(TOP, "bench")
+WORK = os.path.join(BENCH, "work")
 MOST_SHOWN = 10
+NOT_RUN = 77
 
 Ended = namedtuple("Ended", "status out error")
 
 
+def not_run(why):
+    """Ends a script that this machine has no tool for."""
+    print(f"not run here: {why}", file=sys.stderr)
+    sys.exit(NOT_RUN)
+
+
 def find():
-    """The whole program's file. The launcher builds it first where it is missing or old; an empty session has it do so, and writes nothing."""
+    """The file of the program that the launcher would run. release/program names it."""
     given = os.environ.get("CAROUSEL")
     if given:
         return given
-    built = os.path.join(TOP, "crates", "carousel", "out", "carousel")
-    if subprocess.run([os.path.join(TOP, "carousel"), "session"], stdin=subprocess.DEVNULL).returncode or not os.path.exists(built):
-        sys.exit("the program isn't there")
-    return built
+    places = [os.path.join(TOP, *it) for it in (("crates", "carousel", "out"), ("release",))]
+    names = [os.path.join(it, "carousel") for it in places]
+    asked = os.path.join(TOP, "release", "program")
+    if os.access(asked, os.X_OK):
+        done = subprocess.run([asked], stdin=subprocess.DEVNULL, stdout=subprocess.PIPE, text=True)
+        names = [done.stdout.rstrip("\n")] if done.returncode == 0 else []
+    for name in names:
+        if os.access(name, os.X_OK):
+            return name
+    sys.exit("the program isn't there: rt ci makes it, and CAROUSEL=FILE names another one")
 
 
 def measured_work(*words):
-    """The words that start a work of crates/bench_programs; that program is proved and built first where it is missing or old."""
+    """The words that start a work of crates/bench_programs, which is proved and built first where it
+    is missing or old."""
     given = os.environ.get("BENCH_PROGRAMS")
     if given:
         return [given, *words]
+    if not shutil.which("rt"):
+        not_run("rt, which builds crates/bench_programs, isn't installed")
     folder = os.path.join(TOP, "crates", "bench_programs")
-    how = {"stdin": subprocess.DEVNULL, "stdout": subprocess.DEVNULL, "stderr": subprocess.DEVNULL}
+    nothing = subprocess.DEVNULL
+    how = {"stdin": nothing, "stdout": nothing, "stderr": nothing}
     subprocess.run(["rt", "run", "--", "crc"], cwd=folder, check=True, **how)
     return [os.path.join(folder, "out", "bench_programs"), *words]
 
 
-def compiled(name):
-    """The program of a Rust source in this folder, compiled by rustc."""
-    made = os.path.join(WORK, name)
+def compiled(source):
+    """The program of a Rust source under bench/, which is named without its ending, by rustc."""
+    if not shutil.which("rustc"):
+        not_run(f"rustc, which compiles {source}.rs, isn't installed")
+    made = os.path.join(WORK, os.path.basename(source))
     os.makedirs(WORK, exist_ok=True)
-    subprocess.run(["rustc", "--edition", "2024", "-O", "-o", made, os.path.join(TOP, "bench", f"{name}.rs")], check=True)
+    words = ["rustc", "--edition", "2024", "-O", "-o", made, os.path.join(BENCH, f"{source}.rs")]
+    subprocess.run(words, check=True)
     return made
 
 
 def shim(room):
     """failing.c as a library in the folder `room`, for LD_PRELOAD."""
+    if not shutil.which("cc"):
+        not_run("cc, which compiles failing.c, isn't installed")
     made = os.path.join(room, "failing.so")
-    source = os.path.join(TOP, "bench", "failing.c")
-    subprocess.run(["cc", "-shared", "-fPIC", "-O2", "-Wall", "-o", made, source], check=True)
+    source = os.path.join(BENCH, "check", "failing.c")
+    words = ["cc", "-shared", "-fPIC", "-O2", "-Wall", "-o", made, source]
+    subprocess.run(words, check=True)
     return made
 
 
 def over_libdvbpsi(source, room):
-    """A program in C over libdvbpsi, built in the folder `room`; None where the library's header or a C compiler isn't there."""
+    """A program in C over libdvbpsi, built in the folder `room`; None where the library's header or a
+    C compiler isn't there."""
     made = os.path.join(room, "dvbpsi")
     with open(f"{made}.c", "w") as out:
         out.write(source)
     words = ["cc", "-o", made, f"{made}.c", "-ldvbpsi"]
-    return made if shutil.which("cc") and subprocess.run(words, capture_output=True).returncode == 0 else None
+    if shutil.which("cc") and subprocess.run(words, capture_output=True).returncode == 0:
+        return made
+    return None
 
 
 def run(program, stream, *words):
