@@ -9,7 +9,7 @@ import itertools
 import random
 
 from models import receiver, receptions, streams
-from models.receptions import UNHURT, Air, Broadcaster, Case, some_content, some_paths, way
+from models.receptions import UNHURT, Air, Broadcaster, Case, some_paths, way
 from models.streams import DII, DSI, is_block, key_bytes
 
 ORDERS = [order for count in (2, 3, 4) for order in itertools.permutations(range(count))]
