@@ -1,8 +1,8 @@
-"""What bench/check/receptions and bench/check/receptions --many share: receptions are held against what the models owe by themselves, and what the program
-writes of each against the independent receiver.
+"""Receptions are held against what the models owe by themselves, and what the program writes of each
+against the independent receiver, for bench/check/receptions.
 
-The packet by packet rules have to cut what the definition cuts, taking a turn after the other to hold what the look back holds, and
-under the premises a lawful carousel's answers are those of its trees.
+The packet by packet rules have to cut what the definition cuts, taking a turn after the other to hold
+what the look back holds, and under the premises a lawful carousel's answers are those of its trees.
 """
 
 from models import receiver, receptions
@@ -62,20 +62,15 @@ def heard_of(arrived):
     return receiver.held_of([candidate for _, candidate in receiver.cuts(arrived, receptions.PID)])
 
 
-def compare(name, case_of, looks_of, words):
-    """Runs the cases that the words of a script ask for, and ends it: [--alone] [CASES] [SEED]. `looks_of` gives after how many
-    packets a case is opened."""
-    alone = words[:1] == ["--alone"]
-    cases, seed = [*map(int, words[alone:]), *[200, 0][len(words) - alone:]]
-    found, tally = None if alone else program.find(), program.Tally()
-    for number in range(seed, seed + cases):
-        case, again = case_of(number), f"bench/{name} 1 {number}"
-        looks = looks_of(number, case)
-        for fault in model_holds(case, looks):
-            tally.differ(f"{again}: of the models: {fault}, input {{}}", b"".join(case.packets))
-        for arrived in [] if alone else looks:
-            stream, held = b"".join(case.packets[:arrived]), heard_of(case.packets[:arrived])
-            opening = ["open", "256", *(printed(path).decode() for path in case.paths)]
-            for asked, (text, status) in [(opening, receiver.open_text(held, case.paths)), (["list", "256"], receiver.list_text(held))]:
-                tally.compare(again, asked, stream, program.Ended(status, text, b""), program.run(found, stream, *asked))
-    tally.end(f"{cases} cases from {seed} on")
+def compare(again, case, looks, found, tally):
+    """Compares one case after each of these numbers of packets; where there is no program, the models
+    alone. `again` makes it once more."""
+    for fault in model_holds(case, looks):
+        tally.differ(f"{again}: of the models: {fault}, input {{}}", b"".join(case.packets))
+    for arrived in looks if found else []:
+        stream, held = b"".join(case.packets[:arrived]), heard_of(case.packets[:arrived])
+        opening = ["open", "256", *(printed(path).decode() for path in case.paths)]
+        opened, listed = receiver.open_text(held, case.paths), receiver.list_text(held)
+        for asked, (text, status) in [(opening, opened), (["list", "256"], listed)]:
+            wanted = program.Ended(status, text, b"")
+            tally.compare(again, asked, stream, wanted, program.run(found, stream, *asked))
