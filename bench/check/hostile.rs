@@ -320,7 +320,7 @@ fn run_for(program: &str, time: Duration, first: u64, most: usize) -> io::Result
         }
     }
     run.tally.print(first, began.elapsed());
-    println!("{}", if same { "no difference" } else { "1 difference" });
+    println!("{} answers compared, {} differences", run.tally.answers(), u8::from(!same));
     Ok(same)
 }
 
