@@ -1,5 +1,5 @@
-//! Feeds streams with everything wrong in them to the program, and compares all that it writes with the plain receiver's
-//! reading of the same bytes. bench/check/hostile builds and describes it.
+//! Feeds streams with everything wrong in them to the program, and compares all that it writes with
+//! the plain receiver's reading of the same bytes. bench/check/hostile builds and describes it.
 //!
 //!     hostile PROGRAM SECONDS FIRST MOST     pieces of up to MOST bytes, from the number FIRST on
 
@@ -78,7 +78,8 @@ fn cut(form: Form, input: &[u8]) -> Vec<u8> {
     candidates
 }
 
-/// An input as the plain receiver reads it: its candidates back to back, and what is held after them.
+/// An input as the plain receiver reads it: its candidates back to back, and what is held after
+/// them.
 struct Reading<'a> {
     input: &'a [u8],
     candidates: Vec<u8>,
@@ -121,7 +122,8 @@ fn status_of(status: ExitStatus) -> i32 {
     status.code().unwrap_or(-1)
 }
 
-/// Runs a command, its input coming through a pipe in chunks of `step` bytes. What isn't read any more is left.
+/// Runs a command, its input coming through a pipe in chunks of `step` bytes. What isn't read any
+/// more is left.
 fn run(program: &str, words: &[String], input: &[u8], step: usize) -> io::Result<Ended> {
     let mut command = Command::new("timeout");
     command.args([MOST_SECONDS, program]).args(words).stdin(Stdio::piped()).stdout(Stdio::piped()).stderr(Stdio::piped());
@@ -141,7 +143,8 @@ fn step_for(input: &[u8], chance: &mut Chance) -> usize {
 
 // Differences
 
-/// An input without what a difference doesn't need: runs of its packets or sections are left out while it stays.
+/// An input without what a difference doesn't need: runs of its packets or sections are left out
+/// while it stays.
 fn shrunk(form: Form, input: &[u8], differs: impl Fn(&[u8]) -> io::Result<bool>) -> io::Result<Vec<u8>> {
     let began = Instant::now();
     let mut kept: Vec<Vec<u8>> = match form {
@@ -171,7 +174,8 @@ fn shown(line: &[u8]) -> String {
     format!("{}{}", line[..line.len().min(150)].escape_ascii(), if line.len() > 150 { ".." } else { "" })
 }
 
-/// Prints how two endings differ: the status, the line on standard error, and the first line of the output that does.
+/// Prints how two endings differ: the status, the line on standard error, and the first line of the
+/// output that does.
 fn print_difference(wanted: &Ended, got: &Ended) {
     println!("  wanted: status {}; the program: status {} {}", wanted.status, got.status, shown(&got.error));
     let lines = |it: &Ended| it.out.split(|&byte| byte == b'\n').map(<[u8]>::to_vec).collect::<Vec<_>>();
@@ -211,7 +215,8 @@ unsafe extern "C" {
 /// What this thread has had of the processor, by the clock that Linux gives the number 3.
 fn processor_time() -> Duration {
     let mut time = [0; 2];
-    // SAFETY: the pointer is to a value of this frame, of two numbers as the call has them on 64-bit systems.
+    // SAFETY: the pointer is to a value of this frame, of two numbers as the call has them on
+    // 64-bit systems.
     let status = unsafe { clock_gettime(3, &mut time) };
     assert_eq!(status, 0, "the thread's clock");
     Duration::new(time[0] as u64, time[1] as u32)
@@ -258,7 +263,8 @@ impl Tally {
     }
 }
 
-/// What is wrong in sections back to back beside what was wrong in their packets: some bytes are others.
+/// What is wrong in sections back to back beside what was wrong in their packets: some bytes are
+/// others.
 fn roughened(mut sections: Vec<u8>, chance: &mut Chance) -> Vec<u8> {
     for _ in 0..if sections.is_empty() { 0 } else { chance.pick(&[0, 0, 1, 20]) } {
         let place = chance.below(sections.len());

@@ -1,8 +1,10 @@
-"""What `air` writes and says of a folder that changes, for bench/check/air and the models' own tests: by a walk of its own over the folder,
-and the independent writer's generations, each a group of sections. It shares no code with the crates.
+"""What `air` writes and says of a folder that changes, for bench/check/air and the models' own
+tests: by a walk of its own over the folder, and the independent writer's generations, each a group
+of sections. It shares no code with the crates.
 
-Before which cycle a change was read is taken from the notices; all else follows from the readings, and is compared: each notice, and each
-group's bytes. Where it is known how many bytes were written when a change was made, the cycle follows from that too.
+Before which cycle a change was read is taken from the notices; all else follows from the readings,
+and is compared: each notice, and each group's bytes. Where it is known how many bytes were written
+when a change was made, the cycle follows from that too.
 """
 
 import bisect
@@ -20,7 +22,8 @@ PACKET = 188
 # What a reading of a folder gives: the files, or the cause for which there are none.
 Reading = namedtuple("Reading", "files cause")
 
-# A change of the folder: how many bytes were written before it, or None where that isn't known, and what is read from then on.
+# A change of the folder: how many bytes were written before it, or None where that isn't known, and
+# what is read from then on.
 Change = namedtuple("Change", "written reading")
 
 
@@ -64,7 +67,8 @@ class Playout:
 
 
 def settled(sections, cycles):
-    """How many packets of a group are settled after one cycle, after two and so on, whatever follows; and after its end."""
+    """How many packets of a group are settled after one cycle, after two and so on, whatever
+    follows; and after its end."""
     lengths, held, count, counts = [*map(len, sections)], 0, 0, []
     for _ in range(cycles):
         for length in lengths:
@@ -78,7 +82,8 @@ def settled(sections, cycles):
 
 
 def trees_in(stream, pid):
-    """The files of each generation in a stream, as a receiver has them that hears all of it. Each has to come whole."""
+    """The files of each generation in a stream, as a receiver has them that hears all of it. Each
+    has to come whole."""
     tuner = Tuner()
     for candidate in receiver.candidates_of(stream, pid):
         heard = receiver.read(candidate)
@@ -89,7 +94,8 @@ def trees_in(stream, pid):
 
 
 def tree_of(held):
-    """The files, and the folders below the root in which nothing is. Where a kept folder has something in it nobody sees that it is kept."""
+    """The files, and the folders below the root in which nothing is. Where a kept folder has
+    something in it nobody sees that it is kept."""
     return {path: answer.content for path, answer in receiver.listed(held) if answer.names is None or (path and not answer.names)}
 
 
@@ -101,12 +107,14 @@ class Wrong(Exception):
         self.streams = streams
 
 
-# What was sent of a generation: where its packets begin and end, and where those end that each of its cycles settles.
+# What was sent of a generation: where its packets begin and end, and where those end that each of
+# its cycles settles.
 Group = namedtuple("Group", "generation at end ends")
 
 
 class History:
-    """The notices and bytes of an ending, taken one after another. What doesn't follow from the changes raises Wrong."""
+    """The notices and bytes of an ending, taken one after another. What doesn't follow from the
+    changes raises Wrong."""
 
     def __init__(self, pid, carousel, out, lines, is_cut=False):
         self.air, self.out, self.lines, self.is_cut = Playout(pid, carousel), memoryview(out), lines, is_cut
@@ -138,8 +146,8 @@ class History:
         self.compared += 1
 
     def take(self, reading):
-        """The notices of a reading that begins to be so: the first cycle before which it was, and the last one told of. Neither is told of
-        a tree that is on the air already."""
+        """The notices of a reading that begins to be so: the first cycle before which it was, and
+        the last one told of. Neither is told of a tree that is on the air already."""
         if reading.cause is not None:
             return self.keep(reading.cause)
         if self.begun is not None and reading.files == self.air.now.files:
@@ -205,7 +213,8 @@ class History:
 
 
 def firsts_of(history, changes):
-    """The first cycle before which each change was read, None where nothing tells it; and the last cycle that the last notices tell of."""
+    """The first cycle before which each change was read, None where nothing tells it; and the last
+    cycle that the last notices tell of."""
     firsts, last, before = [], None, None
     for change in changes:
         if change.reading.cause and change.reading == before:
@@ -222,8 +231,9 @@ def firsts_of(history, changes):
 
 
 def check(history, changes, cycles, refused=None):
-    """Holds a history against the changes, of which the first is what stood there at the beginning. Of so many cycles all were sent, but where
-    the reader went, or where a change after all others, `refused`, ended it."""
+    """Holds a history against the changes, of which the first is what stood there at the beginning.
+    Of so many cycles all were sent, but where the reader went, or where a change after all others,
+    `refused`, ended it."""
     firsts, told = firsts_of(history, changes)
     last = history.last_cycle() if refused else cycles
     if history.is_cut:

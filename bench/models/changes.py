@@ -1,4 +1,5 @@
-"""Sites, and small changes of them, for bench/speed/changes and bench/check/air; and what of a changed site a receiver fetches again."""
+"""Sites, and small changes of them, for bench/speed/changes and bench/check/air; and what of a
+changed site a receiver fetches again."""
 
 import os
 import shutil
@@ -59,8 +60,8 @@ MOST_BYTES = 400_000
 
 
 class Editing:
-    """Random changes of the files below a folder of the disk. Some change nothing that is sent, and some leave what can't be sent, until
-    the next ones begin. `made` counts them."""
+    """Random changes of the files below a folder of the disk. Some change nothing that is sent, and
+    some leave what can't be sent, until the next ones begin. `made` counts them."""
 
     def __init__(self, chance, folder):
         self.chance, self.folder, self.made, self.spoilt = chance, os.fsencode(folder), Counter(), None

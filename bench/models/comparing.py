@@ -1,8 +1,9 @@
-"""Receptions are held against what the models owe by themselves, and what the program writes of each
-against the independent receiver, for bench/check/receptions.
+"""Receptions are held against what the models owe by themselves, and what the program writes of
+each against the independent receiver, for bench/check/receptions.
 
-The packet by packet rules have to cut what the definition cuts, taking a turn after the other to hold
-what the look back holds, and under the premises a lawful carousel's answers are those of its trees.
+The packet by packet rules have to cut what the definition cuts, taking a turn after the other to
+hold what the look back holds, and under the premises a lawful carousel's answers are those of its
+trees.
 """
 
 from models import receiver, receptions
@@ -63,8 +64,8 @@ def heard_of(arrived):
 
 
 def compare(again, case, looks, found, tally):
-    """Compares one case after each of these numbers of packets; where there is no program, the models
-    alone. `again` makes it once more."""
+    """Compares one case after each of these numbers of packets; where there is no program, the
+    models alone. `again` makes it once more."""
     for fault in model_holds(case, looks):
         tally.differ(f"{again}: of the models: {fault}, input {{}}", b"".join(case.packets))
     for arrived in looks if found else []:

@@ -1,4 +1,5 @@
-"""What `extract` makes of a carousel's files in a new folder, and its line on each. It shares no code with the crates."""
+"""What `extract` makes of a carousel's files in a new folder, and its line on each. It shares no
+code with the crates."""
 
 import os
 
@@ -32,7 +33,8 @@ def lines_of(path, answer):
 
 
 def extracted(held):
-    """The contents by path, with None for a folder, and how the command ends where it meets no fault."""
+    """The contents by path, with None for a folder, and how the command ends where it meets no
+    fault."""
     tree, lines, more = {}, [], []
     for number, (path, answer) in enumerate(receiver.listed(held)):
         if number == receiver.MOST_LINES:
@@ -68,7 +70,8 @@ def content_of(path):
 
 
 def tree_in(folder):
-    """What stands in a folder of the system, as `extracted` has it; no paths where there is none. A link is its target's text."""
+    """What stands in a folder of the system, as `extracted` has it; no paths where there is none. A
+    link is its target's text."""
     folder, tree = os.fsencode(folder), {}
     if not os.path.lexists(folder):
         return tree

@@ -105,7 +105,8 @@ def module_line(messages, dii, line):
 
 
 def homes(held):
-    """The last location of each path that may be listed, beside path and answer: `listed` once more."""
+    """The last location of each path that may be listed, beside path and answer: `listed` once
+    more."""
     def at(path, location):
         answer = receiver.walk(held, location, ()) if location else receiver.ELSEWHERE
         yield path, answer, location

@@ -1,8 +1,10 @@
-"""Receptions of carousels whose modules are listed by several DIIs, for bench/check/receptions --many and the models' own tests.
+"""Receptions of carousels whose modules are listed by several DIIs, for bench/check/receptions and
+the models' own tests.
 
-The first cases are lawful carousels of 2, 3 and 4 DIIs, one for each order in which their DIIs can come. After these, even numbers
-are lawful carousels of 1 to 16 DIIs, and odd ones are of other senders: DIIs of any identifications that share the modules in any
-manner, and DIIs that can't be held beside them.
+The first cases are lawful carousels of 2, 3 and 4 DIIs, one for each order in which their DIIs can
+come. After these, even numbers are lawful carousels of 1 to 16 DIIs, and odd ones are of other
+senders: DIIs of any identifications that share the modules in any manner, and DIIs that can't be
+held beside them.
 """
 
 import itertools
@@ -34,7 +36,8 @@ def steps(case):
 # Lawful cases
 
 def ids_in_groups(chance, count):
-    """Ids of modules in so many groups. Each group has one of the first ids; the first one of all is 1."""
+    """Ids of modules in so many groups. Each group has one of the first ids; the first one of all
+    is 1."""
     groups = [1, *chance.sample(range(2, streams.MOST_GROUPS + 1), count - 1)]
     ids = [[*range(139 * group - 138, 139 * group + 1)] for group in groups]
     firsts = [1, *(chance.choice([its[0], its[-1], chance.choice(its)]) for its in ids[1:])]
@@ -44,7 +47,8 @@ def ids_in_groups(chance, count):
 
 
 class Sender(Broadcaster):
-    """Commits on a tree whose modules are listed by so many DIIs: those of so many groups, as this project numbers them, or any."""
+    """Commits on a tree whose modules are listed by so many DIIs: those of so many groups, as this
+    project numbers them, or any."""
 
     def __init__(self, chance, groups):
         ids, by = ids_in_groups(chance, groups), streams.group_of
@@ -56,7 +60,8 @@ class Sender(Broadcaster):
         self.commit({**self.now.files, **large})
 
     def next(self):
-        """Some files have other bytes as many, and now and then one comes or goes, or the number rises far."""
+        """Some files have other bytes as many, and now and then one comes or goes, or the number
+        rises far."""
         chance, files = self.chance, dict(self.now.files)
         for path in sorted({*chance.choices(sorted(files), k=chance.choice([0, 1, 1, 2, 3]))}):
             files[path] = chance.randbytes(len(files[path]))
@@ -65,7 +70,8 @@ class Sender(Broadcaster):
             self.commit(self.now.files)
 
     def in_order(self, items):
-        """The items, where each block comes after the DII that lists its module, which is sent before where it hasn't been."""
+        """The items, where each block comes after the DII that lists its module, which is sent
+        before where it hasn't been."""
         sent = []
         for item in items:
             listed_by = (DII, self.now.by(item[0])) if is_block(item) else None
@@ -116,8 +122,9 @@ def lawful(chance):
 
 
 def ordered(chance, order):
-    """Four generations that differ in one or two modules. The DIIs of the second and the fourth come in the order asked for, in the
-    second with blocks of any module between; those of the third come in the opposite order without the first of them."""
+    """Four generations that differ in one or two modules. The DIIs of the second and the fourth
+    come in the order asked for, in the second with blocks of any module between; those of the third
+    come in the opposite order without the first of them."""
     sender, air = Sender(chance, len(order)), Air(chance)
 
     def send(items):
@@ -148,7 +155,8 @@ def ordered(chance, order):
 
 
 def fullest(chance):
-    """A generation of as many modules as 16 DIIs can list, 139 each, an object in each. The DIIs come in any order, and then the rest."""
+    """A generation of as many modules as 16 DIIs can list, 139 each, an object in each. The DIIs
+    come in any order, and then the rest."""
     files = {(b"f%d" % n,): chance.randbytes(40) for n in range(139 * streams.MOST_GROUPS - 1)}
     now, air = streams.generation(files, place=lambda sizes, old: [*range(1, len(sizes) + 1)]), Air(chance)
     rest = [it for it in now.cycle() if it == DSI or is_block(it)]
@@ -161,7 +169,8 @@ def fullest(chance):
 # Carousels of other senders
 
 def some_tap(chance, by, others):
-    """The transaction of a tap: mostly it names the DII asked for. None stands for a tap of another use."""
+    """The transaction of a tap: mostly it names the DII asked for. None stands for a tap of another
+    use."""
     if chance.random() < 0.85:
         return streams.tap(by)
     return None if chance.random() < 0.5 else chance.choice([0x80050001 | by << 1, *map(streams.tap, [0, 77, *others])])
@@ -186,8 +195,9 @@ KINDS = [kind for kind, weight in WEIGHTS.items() for _ in range(weight)]
 
 
 class Others:
-    """Modules of key 1, a folder, and key 2, a file, in some variants, and DIIs that share them in any manner. Module `root` is the
-    gateway's. A variant has mostly a version of its own. Where `says_nothing` holds no tap names a DII."""
+    """Modules of key 1, a folder, and key 2, a file, in some variants, and DIIs that share them in
+    any manner. Module `root` is the gateway's. A variant has mostly a version of its own. Where
+    `says_nothing` holds no tap names a DII."""
 
     def __init__(self, chance):
         self.chance = chance
@@ -204,7 +214,8 @@ class Others:
         self.version = chance.choice([0, 5, 300, 16_380, 16_383])
 
     def module(self, m):
-        """A folder that binds files and folders of all modules where it is the root's, and else two files; and a file."""
+        """A folder that binds files and folders of all modules where it is the root's, and else two
+        files; and a file."""
         chance, bindings = self.chance, []
         for other in sorted(self.home) if m == self.root else [self.root, m]:
             transaction = None if self.says_nothing else some_tap(chance, self.home[other], self.diis)
@@ -230,7 +241,8 @@ class Others:
         return lines
 
     def dii(self, identification, lines=None, version=None):
-        """The DII of an identification: its modules, or the lines given, and now and then something that is out of the ordinary."""
+        """The DII of an identification: its modules, or the lines given, and now and then something
+        that is out of the ordinary."""
         chance = self.chance
         lines = self.lines_of(identification) if lines is None else lines
         odd, block_size = chance.random(), self.block_size.get(identification, 4066)
@@ -254,7 +266,8 @@ class Others:
         return found
 
     def turned(self):
-        """A later version, in which some modules are others and now and then one has gone to another DII. Blocks come between."""
+        """A later version, in which some modules are others and now and then one has gone to
+        another DII. Blocks come between."""
         chance = self.chance
         self.version += chance.choice([1, 1, 1, 1, 1, 2, 100, 254, 255, 256, 257, 9000, 16_383])
         for m in self.now:
@@ -268,7 +281,8 @@ class Others:
         return found
 
     def moved(self):
-        """The blocks of all modules, some of them only between the DIIs of the next version, which lists a module in any of the DIIs."""
+        """The blocks of all modules, some of them only between the DIIs of the next version, which
+        lists a module in any of the DIIs."""
         chance, blocks = self.chance, [section for m in self.home for section in self.ddbs(m)]
         self.version += 1
         self.home[chance.choice(sorted(self.home))] = chance.choice(self.diis)
@@ -294,7 +308,8 @@ class Others:
         return ours[:cut] + found + ours[cut:]
 
     def large(self):
-        """DIIs whose modules sum to the limit of all sizes, or to a byte more, with one of ours; and one that has no room then."""
+        """DIIs whose modules sum to the limit of all sizes, or to a byte more, with one of ours;
+        and one that has no room then."""
         chance = self.chance
         self.version += 1
         ours = self.dii(chance.choice(self.diis))
@@ -326,7 +341,8 @@ class Others:
         return self.chance.sample(blocks, self.chance.randrange(min(len(blocks), 8) + 1))
 
     def sections(self):
-        """A few sections. Now and then a byte is another one, mostly under a CRC that is wrong then."""
+        """A few sections. Now and then a byte is another one, mostly under a CRC that is wrong
+        then."""
         chance = self.chance
         kind = chance.choice(KINDS)
         if kind == "dii":

@@ -1,9 +1,10 @@
-"""Multiplexes of several carousels, for bench/check/mounts and the models' own tests: tables of mounts, what is sent on each PID and what comes
-of it, and what is written under a table.
+"""Multiplexes of several carousels, for bench/check/mounts and the models' own tests: tables of
+mounts, what is sent on each PID and what comes of it, and what is written under a table.
 
-A case has 1 to 16 carousels, each on a PID of its own: published trees and receptions as bench/check/receptions and bench/check/receptions --many have them, with
-what was lost and damaged on the way. They come one after the other, packet by packet in turn, or mixed by chance. Now and then all
-packets of one are lost, or the table doesn't have it.
+A case has 1 to 16 carousels, each on a PID of its own: published trees and receptions as
+bench/check/receptions has them, with what was lost and damaged on the way. They come one after the
+other, packet by packet in turn, or mixed by chance. Now and then all packets of one are lost, or
+the table doesn't have it.
 """
 
 import itertools
@@ -28,7 +29,8 @@ Mount = namedtuple("Mount", "name pid")
 
 
 def fault_of(mounts):
-    """Why these mounts, in this order, are no table, with the place of the first that breaks a rule; None where they are one."""
+    """Why these mounts, in this order, are no table, with the place of the first that breaks a
+    rule; None where they are one."""
     if len(mounts) > MOST_MOUNTS:
         return "TooMany", None
     for place, (name, pid) in enumerate(mounts):
@@ -58,7 +60,8 @@ def word_of(mounts):
 
 
 def some_word(chance):
-    """A word that may be a table, of up to 17 mounts: mostly with nothing that is wrong, or one thing."""
+    """A word that may be a table, of up to 17 mounts: mostly with nothing that is wrong, or one
+    thing."""
     count = chance.choice([1, 2, 3, 5, 16, 17])
     entries = [b"%b=%d" % it for it in zip(chance.sample(NAMES, count), chance.sample([*PIDS, 33, 8191], count))]
     for _ in range(chance.choice([0, 0, 1, 1, 2])):
@@ -95,7 +98,8 @@ def is_on(packet, pid):
 
 # Cases
 
-# The table, the packets that arrive, the paths to ask, and by PID what was sent of those carousels that are one published tree.
+# The table, the packets that arrive, the paths to ask, and by PID what was sent of those carousels
+# that are one published tree.
 Case = namedtuple("Case", "mounts packets paths trees")
 Tree = namedtuple("Tree", "files sections")
 
@@ -120,7 +124,8 @@ def some_tree(chance):
 
 
 def some_carousel(chance):
-    """The packets of a carousel that arrive, paths to ask of it, and what was sent where it is one published tree."""
+    """The packets of a carousel that arrive, paths to ask of it, and what was sent where it is one
+    published tree."""
     kind = chance.choice(["tree", "tree", "tree", "turns", "turns", "many"])
     if kind == "tree":
         return some_tree(chance)
@@ -141,7 +146,8 @@ def joined(chance, parts):
 
 
 def asked(chance, mounts, inside):
-    """Paths under each mount, and some that are under none; `inside` has those of the carousel on each PID."""
+    """Paths under each mount, and some that are under none; `inside` has those of the carousel on
+    each PID."""
     paths = [(), *((name,) for name in NO_MOUNTS[:8])]
     for name, pid in mounts:
         within = [it for it in inside[pid] if len(it) < DEEPEST]
@@ -170,8 +176,9 @@ def case(number):
 
 
 def broken(case):
-    """The paths whose answers break what is owed: where the sections that read on a PID are sections that were sent there of one tree, each
-    answer under its mount is that tree's, or waits for a module, or for the carousel."""
+    """The paths whose answers break what is owed: where the sections that read on a PID are
+    sections that were sent there of one tree, each answer under its mount is that tree's, or waits
+    for a module, or for the carousel."""
     for name, pid in case.mounts:
         candidates, tree = [candidate for _, candidate in receiver.cuts(case.packets, pid)], case.trees[pid]
         if tree and all(it in tree.sections for it in candidates if not receiver.skip_of(it)):
@@ -184,5 +191,6 @@ def broken(case):
 
 
 def with_others(chance, packets, pid, others):
-    """The packets that parse with this PID, in order, among those of another multiplex that don't."""
+    """The packets that parse with this PID, in order, among those of another multiplex that
+    don't."""
     return joined(chance, [[it for it in packets if is_on(it, pid)], [it for it in others if not is_on(it, pid)]])

@@ -1,5 +1,6 @@
-"""The command `air` at work on a pipe, for bench/check/air. Nothing of its output is read but what is asked for, so that it has to wait; and
-each change of its folder is kept beside how much it had written then.
+"""The command `air` at work on a pipe, for bench/check/air. Nothing of its output is read but what
+is asked for, so that it has to wait; and each change of its folder is kept beside how much it had
+written then.
 """
 
 import array
@@ -18,9 +19,10 @@ PAGE, PIECE, WAIT = 4096, 65_536, 0.0005
 
 
 class OnAir:
-    """While it is `held`, each change waits until the program waits for its output to be read: then it has read its folder for the cycle
-    that it writes, and reads it next for the one after that, however many calls a change takes. Where it isn't, the folder changes
-    while the program reads it, writes, or does anything else."""
+    """While it is `held`, each change waits until the program waits for its output to be read: then
+    it has read its folder for the cycle that it writes, and reads it next for the one after that,
+    however many calls a change takes. Where it isn't, the folder changes while the program reads
+    it, writes, or does anything else."""
 
     def __init__(self, found, folder, cycles, pid=256, carousel=1, held=True, seen_as=None, **how):
         self.folder, self.cycles, self.pid, self.carousel, self.held = folder, cycles, pid, carousel, held
@@ -58,7 +60,8 @@ class OnAir:
             self.hear(min(most - len(self.out), PIECE))
 
     def read_cycles(self, count):
-        """Reads as much as so many cycles have, or somewhat more: each file and empty folder, and once more what the module has that comes twice."""
+        """Reads as much as so many cycles have, or somewhat more: each file and empty folder, and
+        once more what the module has that comes twice."""
         size = sum(160 + len(content or b"") for content in self.tree.values())
         self.read(int(count * 1.05 * (1500 + size + min(size, streams.ROOM))))
 
@@ -76,7 +79,8 @@ class OnAir:
             return False
 
     def settle(self):
-        """Waits until the program waits for its output to be read, or has ended, and gives how much it has written."""
+        """Waits until the program waits for its output to be read, or has ended, and gives how much
+        it has written."""
         while not self.is_writing() and self.process.poll() is None:
             self.hear(wait=WAIT)
         self.hear(wait=0)
@@ -96,8 +100,9 @@ class OnAir:
     # ---- what changes
 
     def change(self, make, seen_as=None):
-        """Changes the folder by a call, and reads on until the program has told of it, or for a cycle where it owes no notice. `seen_as` is what is
-        read then, where this process may read more. Where the program ended before, the change is missed, and counts no more."""
+        """Changes the folder by a call, and reads on until the program has told of it, or for a
+        cycle where it owes no notice. `seen_as` is what is read then, where this process may read
+        more. Where the program ended before, the change is missed, and counts no more."""
         written, told = self.settle() if self.held else self.begin(), len(self.lines)
         make()
         change = Change(written, seen_as or air.read(self.folder))
@@ -134,7 +139,8 @@ class OnAir:
         return Ended(self.process.wait(), bytes(self.out), self.lines + [self.rest.decode()] * bool(self.rest))
 
     def history(self, ended, status=0, last=(), is_cut=False):
-        """The history of an ending with this status, whose last lines are no notices. `is_cut` says that the reader went."""
+        """The history of an ending with this status, whose last lines are no notices. `is_cut` says
+        that the reader went."""
         lines = ended.error[:len(ended.error) - len(last)]
         if ended.status != status or ended.error[len(lines):] != [*last]:
             raise Wrong(f"it ends with status {ended.status} and {ended.error[-1:]}, and not with {status} and {[*last]}")

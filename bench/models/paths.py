@@ -1,4 +1,5 @@
-"""Texts of paths, for the models and scripts of this folder. A path is a tuple of names, and a name is bytes."""
+"""Texts of paths, for the models and scripts of this folder. A path is a tuple of names, and a name
+is bytes."""
 
 import re
 

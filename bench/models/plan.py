@@ -1,4 +1,5 @@
-"""What `plan` writes of a folder, line by line: by a walk of its own, and the independent writer's carousel of what is there."""
+"""What `plan` writes of a folder, line by line: by a walk of its own, and the independent writer's
+carousel of what is there."""
 
 import os
 import stat
@@ -32,8 +33,8 @@ def shown(path):
 
 
 class Walk:
-    """The files below a folder, the folders in which neither a file nor a folder stands, and what is passed over, in the order in
-    which they are met."""
+    """The files below a folder, the folders in which neither a file nor a folder stands, and what
+    is passed over, in the order in which they are met."""
 
     def __init__(self, folder):
         self.files, self.left, self.read = {}, [], 0

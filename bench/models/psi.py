@@ -1,4 +1,5 @@
-"""PAT and PMT by themselves: a writer, packets of several PIDs, and a model that looks back over all packets for a carousel's PID."""
+"""PAT and PMT by themselves: a writer, packets of several PIDs, and a model that looks back over
+all packets for a carousel's PID."""
 
 from models import streams
 
@@ -56,7 +57,8 @@ class Sender:
 
 
 def cut(packets, pid):
-    """The sections of a PID, each with the number of packets up to the one that completed it. These streams lose nothing."""
+    """The sections of a PID, each with the number of packets up to the one that completed it. These
+    streams lose nothing."""
     out, held = [], None
     for number, packet in enumerate(packets, 1):
         if (packet[1] & 0x1F) << 8 | packet[2] != pid:
@@ -139,7 +141,8 @@ def found(packets, carousel):
 
 
 def first_found(packets, carousel):
-    """The number of packets up to the first one behind which the PID is known, and that PID; None where there is none."""
+    """The number of packets up to the first one behind which the PID is known, and that PID; None
+    where there is none."""
     for n in range(1, len(packets) + 1):
         answer = found(packets[:n], carousel)
         if answer.isdigit():
@@ -148,7 +151,8 @@ def first_found(packets, carousel):
 
 
 def announced(packets, cycles, carousel):
-    """The packets of so many cycles, each cycle after the packets of the PAT and of the map table that are sent with it."""
+    """The packets of so many cycles, each cycle after the packets of the PAT and of the map table
+    that are sent with it."""
     sender, size = Sender(), len(packets) // cycles
     stream = (0x0B, 256, names(carousel) + descriptor(0x52, b"\1"))
     for first in range(0, len(packets), size):

@@ -1,6 +1,6 @@
-//! A plain broadcaster in Rust, by the same rules as the proved program, written straightforwardly and with nothing but std:
-//! the folder's files as the first generation of a carousel, in cycles of packets. bench/speed/speed compares its time with the
-//! program's.
+//! A plain broadcaster in Rust, by the same rules as the proved program, written straightforwardly
+//! and with nothing but std: the folder's files as the first generation of a carousel, in cycles of
+//! packets. bench/speed/speed compares its time with the program's.
 
 use std::collections::{BTreeMap, BTreeSet};
 use std::fs;

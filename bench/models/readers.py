@@ -1,4 +1,5 @@
-"""Readers of other makers, for the scripts of this folder: the sections on each PID of a stream as they read them."""
+"""Readers of other makers, for the scripts of this folder: the sections on each PID of a stream as
+they read them."""
 
 import json
 import os
@@ -32,7 +33,8 @@ int main(int count, char **words) {
 
 
 def by_libdvbpsi(built):
-    """The sections with a right CRC, by the program that is built over libdvbpsi's own packets and sections."""
+    """The sections with a right CRC, by the program that is built over libdvbpsi's own packets and
+    sections."""
     def read(stream, pids):
         return {pid: receiver.back_to_back(program.run(built, stream, str(pid)).out) for pid in pids}
 
@@ -40,8 +42,9 @@ def by_libdvbpsi(built):
 
 
 def by_tshark(room):
-    """The sections that tshark cuts, whatever their CRC. Its reading of DSM-CC messages is off: it calls a DII malformed after its first
-    moduleInfo, and then drops what follows in the packet. Some PIDs have a protocol of their own there: 0 to 31, and 8190."""
+    """The sections that tshark cuts, whatever their CRC. Its reading of DSM-CC messages is off: it
+    calls a DII malformed after its first moduleInfo, and then drops what follows in the packet.
+    Some PIDs have a protocol of their own there: 0 to 31, and 8190."""
     path = os.path.join(room, "read.ts")
 
     def read(stream, pids):
@@ -61,7 +64,8 @@ def by_tshark(room):
 
 
 def installed(room):
-    """Each reader that is there, with its name; those that are missing are named. `room` is a folder for what they need."""
+    """Each reader that is there, with its name; those that are missing are named. `room` is a
+    folder for what they need."""
     built = program.over_libdvbpsi(DVBPSI, room)
     if built:
         yield "libdvbpsi", by_libdvbpsi(built)

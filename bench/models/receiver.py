@@ -1,7 +1,8 @@
 """An independent reading receiver, for tests alone: transport packets or sections in, answers out.
 
-It shares no code with the crates. What is held is a look back over the whole list of candidates, taken anew for each
-question, and the cuts of a stream look forward from each opening; `Demux` is the same packet by packet, with its counts.
+It shares no code with the crates. What is held is a look back over the whole list of candidates,
+taken anew for each question, and the cuts of a stream look forward from each opening; `Demux` is
+the same packet by packet, with its counts.
 """
 
 from collections import Counter, namedtuple
@@ -33,7 +34,8 @@ class Broken(Exception):
 
 
 class Fields:
-    """Big-endian fields of `data` from `at` to `end`. Places count from the first byte of `data`."""
+    """Big-endian fields of `data` from `at` to `end`. Places count from the first byte of
+    `data`."""
 
     def __init__(self, data, at=0, end=None):
         self.data, self.at, self.end = data, at, len(data) if end is None else end
@@ -90,7 +92,8 @@ def packets_of(stream):
 
 
 class Demux:
-    """The rules packet by packet. Each candidate comes with the number of the packet in which it opened."""
+    """The rules packet by packet. Each candidate comes with the number of the packet in which it
+    opened."""
 
     def __init__(self, pid):
         self.pid, self.counts = pid, Counter()
@@ -165,7 +168,8 @@ class Demux:
 
 
 def cuts(packets, pid):
-    """The candidates of all packets, by looking forward from each opening, with the number of the packet where it opens."""
+    """The candidates of all packets, by looking forward from each opening, with the number of the
+    packet where it opens."""
     taken = []
     for number, data in enumerate(packets):
         packet = packet_of(data)
@@ -212,7 +216,8 @@ def cut_first(data):
 
 
 def back_to_back(data):
-    """The candidates of input that is sections one after another: a length field alone cuts, whatever it holds."""
+    """The candidates of input that is sections one after another: a length field alone cuts,
+    whatever it holds."""
     found, at = [], 0
     while len(data) - at >= 3:
         length = 3 + ((data[at + 1] & 0x0F) << 8 | data[at + 2])
@@ -302,7 +307,8 @@ def taps_of(fields):
 
 
 def is_compressed(info):
-    """Whether a descriptor of a compressed module stands whole in the user info. What doesn't read has no user info."""
+    """Whether a descriptor of a compressed module stands whole in the user info. What doesn't read
+    has no user info."""
     fields = Fields(info)
     try:
         fields.take(12)
@@ -423,7 +429,8 @@ def binding_of(fields):
 
 @lru_cache(maxsize=512)
 def objects_in(data):
-    """The first object of each key of a module, and where reading stopped, if it did before the end."""
+    """The first object of each key of a module, and where reading stopped, if it did before the
+    end."""
     fields, found = Fields(data), {}
     while fields.at < fields.end:
         place = fields.at
@@ -437,8 +444,8 @@ def objects_in(data):
 
 # What is held
 
-# The DIIs stand in the order in which they were admitted; `modules` has the bytes of each listed module that isn't compressed,
-# or None where it isn't whole.
+# The DIIs stand in the order in which they were admitted; `modules` has the bytes of each listed
+# module that isn't compressed, or None where it isn't whole.
 Held = namedtuple("Held", "label epoch diis gateway modules")
 
 
@@ -480,7 +487,8 @@ def is_sound(message):
 
 
 def joins(dii, beside):
-    """Whether a DII of the held version is admitted beside those that have been since the last turn."""
+    """Whether a DII of the held version is admitted beside those that have been since the last
+    turn."""
     listed = [line for it in [*beside, dii] for line in it.lines]
     return (
         dii.identification not in {it.identification for it in beside}
@@ -491,7 +499,8 @@ def joins(dii, beside):
 
 
 def spans_of(messages):
-    """The places of the admitted DIIs, span by span: in each the one that turns, and then those that join."""
+    """The places of the admitted DIIs, span by span: in each the one that turns, and then those
+    that join."""
     spans = []
     for place, message in enumerate(messages):
         if not is_sound(message):
@@ -510,13 +519,15 @@ def steps_of(messages, spans):
 
 
 def agreeing(messages, span, dii, m):
-    """The place in a span of the DII of this one's identification, where it describes the module as this one does, or None."""
+    """The place in a span of the DII of this one's identification, where it describes the module as
+    this one does, or None."""
     alike = [k for k in span if messages[k].identification == dii.identification and agrees(messages[k], dii, m)]
     return alike[0] if alike else None
 
 
 def stretch(messages, spans, dii, m):
-    """What was heard while the module was listed as it is now: in each span since then what comes after the DII that lists it."""
+    """What was heard while the module was listed as it is now: in each span since then what comes
+    after the DII that lists it."""
     steps, ends, begin = steps_of(messages, spans), [span[0] for span in spans[1:]] + [len(messages)], len(spans)
     while begin > 0:
         is_near = begin == len(spans) or steps[begin - 1] < 256
@@ -548,7 +559,8 @@ def module_held(heard, dii, line):
 
 
 def look_back(messages):
-    """What is held after a list of messages, one for each candidate and None for one that doesn't read."""
+    """What is held after a list of messages, one for each candidate and None for one that doesn't
+    read."""
     gateway = next((it.gateway for it in reversed(messages) if isinstance(it, Dsi) and it.gateway), None)
     spans = spans_of(messages)
     if not spans:
@@ -681,7 +693,8 @@ def record(candidates):
 
 
 def assemble(candidates, line, download):
-    """The bytes of a module in blocks of the written size, or None with the least block that is missing."""
+    """The bytes of a module in blocks of the written size, or None with the least block that is
+    missing."""
     messages = [read(candidate) for candidate in candidates]
     dii = Dii(download, MOST_BLOCK, 0, 1, [line])
     whole = module_held(messages, dii, line)

@@ -1,5 +1,6 @@
-//! A plain receiver in Rust, by the same rules as the proved program, written straightforwardly and with nothing but std.
-//! bench/speed/speed compares its time with the program's, and bench/check/hostile its answers.
+//! A plain receiver in Rust, by the same rules as the proved program, written straightforwardly and
+//! with nothing but std. bench/speed/speed compares its time with the program's, and
+//! bench/check/hostile its answers.
 
 use std::collections::{HashMap, HashSet};
 use std::io::{self, Write};
@@ -510,7 +511,8 @@ struct Part {
 }
 
 impl Part {
-    /// The part of a DII that comes, with what it describes as the DII of its identification did before it.
+    /// The part of a DII that comes, with what it describes as the DII of its identification did
+    /// before it.
     fn new(dii: Dii, before: Option<Part>) -> Part {
         let is_alike = |it: &Part| (it.dii.download, it.dii.block_size) == (dii.download, dii.block_size);
         let mut old = before.filter(is_alike).map_or(HashMap::new(), |it| it.slots);
@@ -523,7 +525,8 @@ impl Part {
     }
 }
 
-/// The parts of the DIIs of one version, and those of the version before that still wait for their DII.
+/// The parts of the DIIs of one version, and those of the version before that still wait for their
+/// DII.
 #[derive(Default)]
 pub struct Tuner {
     gateway: Option<Location>,
@@ -797,8 +800,8 @@ impl Watch {
         Watch { tuner: Tuner::default(), watched, mark: 0 }
     }
 
-    /// Hears a candidate, and writes a line for each watcher and each of its paths whose answer is another one now: the first watcher
-    /// has all paths, and the second those of `now` and below.
+    /// Hears a candidate, and writes a line for each watcher and each of its paths whose answer is
+    /// another one now: the first watcher has all paths, and the second those of `now` and below.
     pub fn hear(&mut self, candidate: &[u8], out: &mut impl Write) -> io::Result<()> {
         self.mark += 1;
         if !self.tuner.feed(candidate) {

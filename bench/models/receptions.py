@@ -1,8 +1,10 @@
-"""Random receptions for bench/check/receptions, bench/check/receptions --many and the models' own tests: what is sent of many generations, and what comes of it.
+"""Random receptions for bench/check/receptions and the models' own tests: what is sent of many
+generations, and what comes of it.
 
-A lawful case is a carousel as it should be: trees, one generation after another, some of which are sent in whole or in part,
-in any order within a generation. A wild case is made of control messages and blocks that fit together only now and then.
-On the way packets are lost, repeated at once, damaged, and mixed with others.
+A lawful case is a carousel as it should be: trees, one generation after another, some of which are
+sent in whole or in part, in any order within a generation. A wild case is made of control messages
+and blocks that fit together only now and then. On the way packets are lost, repeated at once,
+damaged, and mixed with others.
 """
 
 import random
@@ -16,9 +18,9 @@ from models.streams import DSI, FIRST_DII, is_block
 
 PID = 256
 
-# The packets that arrive, the generation that each was sent for, the paths to ask, the trees by generation (None where
-# there is no law), the generation of which a whole cycle came unhurt at the end, if one did, and the numbers of packets at which
-# a part of what was sent ends.
+# The packets that arrive, the generation that each was sent for, the paths to ask, the trees by
+# generation (None where there is no law), the generation of which a whole cycle came unhurt at the
+# end, if one did, and the numbers of packets at which a part of what was sent ends.
 Case = namedtuple("Case", "packets origins paths trees whole ends", defaults=((),))
 
 # The number of the one case that is made by hand.
@@ -75,7 +77,8 @@ def stray(chance):
 
 
 def with_field(packet, chance):
-    """The packet with an adaptation field before its payload where the payload ends in filling, and else as it is."""
+    """The packet with an adaptation field before its payload where the payload ends in filling, and
+    else as it is."""
     kept = packet[4:].rstrip(b"\xFF")
     room = 184 - len(kept)
     if packet[3] >> 4 != 1 or room < 1:
@@ -155,7 +158,8 @@ ONE_GROUP = range(1, streams.MOST_LINES + 1)
 
 
 class Broadcaster:
-    """Commits on a tree, and the trees of all generations so far. Its modules have the ids given, and `by` says which DII lists each."""
+    """Commits on a tree, and the trees of all generations so far. Its modules have the ids given,
+    and `by` says which DII lists each."""
 
     def __init__(self, chance, ids=ONE_GROUP, rooms=(300, 1000, 6000, streams.ROOM), by=streams.group_of):
         self.chance = chance
@@ -173,7 +177,8 @@ class Broadcaster:
         self.trees[self.now.number] = self.now.files
 
     def several(self, count):
-        """So many commits: of nothing, of one file again and again, or of anything. The last may bring the first tree back."""
+        """So many commits: of nothing, of one file again and again, or of anything. The last may
+        bring the first tree back."""
         before, kind = self.now.files, self.chance.choice(["nothing", "one", "any"])
         path = self.chance.choice(sorted(before) or [(b"a",)])
         for k in range(count):
@@ -256,7 +261,8 @@ def wild_folder(chance):
 
 
 def wild_module(chance, m):
-    """Messages back to back, most of which read. The first object of module 1 is a folder under key 1."""
+    """Messages back to back, most of which read. The first object of module 1 is a folder under key
+    1."""
     parts = []
     for place, key in enumerate([1, *chance.sample([2, 3, 4], chance.randrange(1, 4))]):
         key, kind = streams.key_bytes(key), chance.random()
@@ -279,7 +285,8 @@ def resealed(section):
 
 
 class Chaos:
-    """Modules in some variants, and messages on them. A variant has mostly a version of its own, and not always."""
+    """Modules in some variants, and messages on them. A variant has mostly a version of its own,
+    and not always."""
 
     def __init__(self, chance):
         self.chance = chance
@@ -361,14 +368,16 @@ def wild(chance):
 # What a case owes under the premises
 
 class Premises:
-    """Whether what was heard up to a packet meets the premises: no damage passes a CRC, and no block is 256 generations away."""
+    """Whether what was heard up to a packet meets the premises: no damage passes a CRC, and no
+    block is 256 generations away."""
 
     def __init__(self, case):
         self.case, self.demux = case, receiver.Demux(PID)
         self.messages, self.near, self.first, self.last = [], True, None, None
 
     def generation(self, label):
-        """The generation of a label. The two are one unless the versions had begun again before the first DII was heard."""
+        """The generation of a label. The two are one unless the versions had begun again before the
+        first DII was heard."""
         return label + self.first // 16384 * 16384
 
     def hear(self, packet):

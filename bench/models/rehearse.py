@@ -1,7 +1,8 @@
 """An independent model of the command `rehearse`, for tests alone: a script in, the report out.
 
-It shares no code with the crates. Commits go by streams.py, and what a receiver makes of the packets by receiver.py.
-Here the receiver goes on from candidate to candidate, for speed; the models' own tests hold it against the look back.
+It shares no code with the crates. Commits go by streams.py, and what a receiver makes of the
+packets by receiver.py. Here the receiver goes on from candidate to candidate, for speed; the
+models' own tests hold it against the look back.
 """
 
 import re
@@ -114,7 +115,8 @@ ROUND = bytes(range(256)) * 2
 
 
 def filled(length, begin):
-    """Byte i is begin + 7 * i + i / 256, so each 256 bytes are those before them raised by one, round and round."""
+    """Byte i is begin + 7 * i + i / 256, so each 256 bytes are those before them raised by one,
+    round and round."""
     row = bytes((begin + 7 * i) % 256 for i in range(256))
     rows = b"".join(row.translate(ROUND[q:q + 256]) for q in range(min(256, -(-length // 256))))
     return (rows * (length // 65536 + 1))[:length]
@@ -177,7 +179,8 @@ PATH_EDITS = {b"remove": Remove, b"mkdir": MakeFolder, b"rmdir": RemoveFolder}
 
 
 def steps_of(text):
-    """The first word of each line that is no edit, in written order, and its event; `start` and `settle` have none."""
+    """The first word of each line that is no edit, in written order, and its event; `start` and
+    `settle` have none."""
     edits = {}
     for _, keyword, values in [*lines_of(text)]:
         if keyword == b"put":
@@ -324,7 +327,8 @@ class Station:
 # The way to the receiver
 
 class Part:
-    """A held DII with what has come of its modules: blocks by place, and the bytes of those that are whole."""
+    """A held DII with what has come of its modules: blocks by place, and the bytes of those that
+    are whole."""
 
     def __init__(self, dii, before=None):
         self.dii, self.lines = dii, {line.id: line for line in dii.lines}
@@ -356,8 +360,9 @@ class Part:
 
 
 class Tuner:
-    """What is held, taken on from candidate to candidate. At a turn the modules of each held DII begin to wait for the next DII of
-    its identification, which takes over those that stay as they were; what still waits at the next turn is given up."""
+    """What is held, taken on from candidate to candidate. At a turn the modules of each held DII
+    begin to wait for the next DII of its identification, which takes over those that stay as they
+    were; what still waits at the next turn is given up."""
 
     def __init__(self):
         self.version = self.label = self.gateway = None
@@ -464,7 +469,8 @@ Rehearsed = namedtuple("Rehearsed", "status report error")
 
 
 def ended(text, reported):
-    """The ending of a command that reports of a script, `reported` being what it writes of a right one."""
+    """The ending of a command that reports of a script, `reported` being what it writes of a right
+    one."""
     if len(text) > MOST_SCRIPT:
         return Rehearsed(8, b"", b"carousel: input too long\n")
     try:

@@ -1,4 +1,5 @@
-"""Random scripts for bench/check/rehearse, bench/check/session and the models' own tests, each by its number."""
+"""Random scripts for bench/check/rehearse, bench/check/session and the models' own tests, each by
+its number."""
 
 import random
 
@@ -6,7 +7,8 @@ import random
 PATHS = [b"/a", b"/b", b"/d", b"/d/x", b"/d/y", b"/d/x/z", b"/index.html", b"/news/today.txt", b"/a%20b", b"/%41", b"/\xC3\xA9", b"/" + b"n" * 254]
 ASKED = PATHS + [b"/", b"/news", b"/no/such", b"/a/b", b"/" + b"/".join([b"p"] * 16)]
 
-# A line of each way to be wrong. The cause is the model's own to find; the models' tests have it beside the line.
+# A line of each way to be wrong. The cause is the model's own to find; the models' tests have it
+# beside the line.
 WRONG = {
     b"unknown word": [b"frobnicate 1", b" commit 1", b"PUT 1 /a -", b" ", b"commit1", b"\r", b"finale\t1 /a", b"put\x00", b"mkdirs 1 /a", b"RMDIR 1 /a"],
     b"bad number": [
@@ -81,7 +83,8 @@ def line(chance):
 
 
 def many_commits(chance):
-    """Commits of one file, as many as make its module's version begin again, with some sections heard on the way."""
+    """Commits of one file, as many as make its module's version begin again, with some sections
+    heard on the way."""
     path = pick(chance)
     far = chance.choice([3, 100, 254, 255, 256, 257, 300, 512])
     lines = [b"put 1 /keep 6b656570", b"fill 2 /large 70000 3", b"commit 1", b"commit 2", draw(chance), b"draw 1048576"]
@@ -134,7 +137,8 @@ LETTERS = [b" ", b"\n", b"#", b"-", b"/a", b"%41", b"\r\n", b"\0", b"\xFF", *(b"
 
 
 def any_bytes(chance):
-    """Bytes of no script: any at all, any of a script's words, or a right script that is cut, joined or written over."""
+    """Bytes of no script: any at all, any of a script's words, or a right script that is cut,
+    joined or written over."""
     text, place = b"\n".join(right(chance)), chance.random()
     first = int(place * len(text))
     return chance.choice([
@@ -176,7 +180,8 @@ def session_line(chance, editors, readers, shares):
 
 
 def right_session(chance):
-    """The lines of a session of 1 to 5 editors and 0 to 5 readers, all right: some actors have no line, others many."""
+    """The lines of a session of 1 to 5 editors and 0 to 5 readers, all right: some actors have no
+    line, others many."""
     editors, readers = (chance.sample(range(1, 65), count) for count in (chance.randrange(1, 6), chance.randrange(6)))
     shares = chance.choice([[3, 2, 1, 3], [3, 2, 1, 3], [1, 1, 1, 12], [2, 9, 1, 2], [1, 1, 3, 6]])
     lines = [session_line(chance, editors, readers, shares) for _ in range(chance.choice([0, 4, 30, 100, 100, 250]))]
@@ -200,7 +205,8 @@ def session(number):
 
 
 def full_sessions():
-    """Sessions with more commits than a season has, and with more bytes than may be put, beside their names."""
+    """Sessions with more commits than a season has, and with more bytes than may be put, beside
+    their names."""
     commits = [b"commit %d" % (1 + n % 5) for n in range(16_400)]
     yield "a full season", [*commits, *[b"draw 3\nopen 1 /\nopen 2 /"] * 40, b"settle", b"finale 2 /"]
     puts = [b"fill %d /%d %d 1\ncommit %d" % (editor, editor, length, editor) for length in (16_777_216, 16_000_000, 5) for _ in range(9) for editor in (1, 2)]
@@ -214,8 +220,9 @@ EDITS = [b"put 1 %s 61", b"remove 1 %s", b"mkdir 1 %s", b"rmdir 1 %s"]
 
 
 def edits_in_order():
-    """Each script beside its name. A commit has three of all edits of three paths, on the empty tree: what it left is taken away by the
-    commits after it, of which each has one edit, and many are refused. Before that the root and the three paths are opened."""
+    """Each script beside its name. A commit has three of all edits of three paths, on the empty
+    tree: what it left is taken away by the commits after it, of which each has one edit, and many
+    are refused. Before that the root and the three paths are opened."""
     for paths in FAMILIES:
         edits = [edit % path for path in paths for edit in EDITS]
         away = [b"%s 1 %s\ncommit 1" % (word, path) for path in reversed(paths) for word in (b"remove", b"rmdir")]
@@ -226,8 +233,8 @@ def edits_in_order():
 
 
 def edits_at_random(number):
-    """A script of commits of a few such edits, each on what the ones before it left; the root and the three paths are opened after some, and
-    packets are lost on the way."""
+    """A script of commits of a few such edits, each on what the ones before it left; the root and
+    the three paths are opened after some, and packets are lost on the way."""
     chance = random.Random(f"folders {number}")
     paths, lines = chance.choice(FAMILIES), []
     edits = [edit % path for path in paths for edit in [*EDITS, *chance.choices(EDITS, k=2)]]
@@ -241,14 +248,16 @@ def edits_at_random(number):
 # Scripts of files each of which has a module of its own, so many that several DIIs list them.
 
 def some_draws(chance):
-    """Draws of a generation's first items, in any of which packets may be lost, and mostly of the rest of its cycle."""
+    """Draws of a generation's first items, in any of which packets may be lost, and mostly of the
+    rest of its cycle."""
     first = [b"draw %d" % chance.choice([1, 1, 1, 2, 3]) for _ in range(chance.choice([0, 2, 3, 4]))]
     rest = chance.choice([[], [b"draw %d" % chance.randrange(1, 900)], [b"draw 1048576"], [b"draw 1048576 k%d d%d" % (chance.randrange(900, 9000), chance.choice([1, 16, 60]))]])
     return [draw + chance.choice([b"", b"", b"", b" d60", b" k24 d1"]) for draw in first] + rest
 
 
 def in_groups(number):
-    """A script of commits of which each puts, changes or removes a few of these files; DIIs are lost on the way, and others aren't."""
+    """A script of commits of which each puts, changes or removes a few of these files; DIIs are
+    lost on the way, and others aren't."""
     chance = random.Random(f"groups {number}")
     names = [b"/f%03d" % n for n in range(chance.choice([138, 139, 140, 141, 150, 277, 278, 279, 290]))]
 
@@ -288,7 +297,8 @@ def limits():
     yield "modules", [*modules, b"commit 1", *modules[1:], b"commit 1", b"draw 1048576", b"open 1 /138", b"open 1 /2223"]
     yield "a file", [b"fill 1 /a 16777217 0", b"commit 1", b"fill 1 /a 16777216 0", b"commit 1", b"draw 1048576", b"finale 1 /a"]
     yield "generations", [*[b"commit 1"] * 16_384, b"draw 1", b"put 1 /a -", b"commit 1", b"draw 1048576", b"open 1 /"]
-    # fifteen files of 16,777,216 bytes and one of 16,775,150 have 268,435,456 bytes with their headers
+    # fifteen files of 16,777,216 bytes and one of 16,775,150 have 268,435,456 bytes with their
+    # headers
     large = [b"fill 1 /%c 16777216 %d" % (97 + n, n) for n in range(15)]
     yield "bytes", [*large, b"fill 1 /p 16775150 0", b"commit 1", b"fill 1 /p 16775151 0", b"commit 1"]
     yield "what is put", [*[b"fill 1 /a 16777216 1"] * 32, b"commit 1", b"mkdir 2 /c", b"commit 2", b"put 2 /b 00", b"commit 2", b"commit 3"]
@@ -299,7 +309,8 @@ def limits():
 # Scripts as long as they may be.
 
 def lines_of_all_kinds(count):
-    """So many short lines: mostly opens, as many commits as a season has, draws, and lines that say nothing."""
+    """So many short lines: mostly opens, as many commits as a season has, draws, and lines that say
+    nothing."""
     edits = [b"put 1 /a 61", b"remove 1 /a"]
     for n in range(count):
         if n % 120 == 0:

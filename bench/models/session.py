@@ -1,7 +1,9 @@
-"""An independent model of the command `session`, for tests alone: which reports are those of a session of a script.
+"""An independent model of the command `session`, for tests alone: which reports are those of a
+session of a script.
 
-A session has many reports, since its threads may meet in any order. `check` refuses a text that is none of them, and `played`
-makes one of them by chance. What an event replies is the model's of rehearse.py.
+A session has many reports, since its threads may meet in any order. `check` refuses a text that is
+none of them, and `played` makes one of them by chance. What an event replies is the model's of
+rehearse.py.
 """
 
 import collections
@@ -12,7 +14,8 @@ from models.paths import printed
 from models.receptions import looked_up
 from models.rehearse import Commit, Draw, World, answer_text
 
-# While so few generations are published in all, no section can be taken for one of another generation.
+# While so few generations are published in all, no section can be taken for one of another
+# generation.
 NEAR = 255
 
 # An open, and how many draws stand before it in the report, at least and at most.
@@ -24,7 +27,8 @@ class Wrong(Exception):
 
 
 class Script:
-    """A script by its actors: each editor's commits, the draws and each reader's opens, in written order."""
+    """A script by its actors: each editor's commits, the draws and each reader's opens, in written
+    order."""
 
     def __init__(self, text):
         steps = [*rehearse.steps_of(text)]
@@ -54,10 +58,11 @@ class Script:
 
 
 class History:
-    """The events of a report, taken line by line: each is the next of its actor, and the line is what the world replies.
+    """The events of a report, taken line by line: each is the next of its actor, and the line is
+    what the world replies.
 
-    A commit line that found the season or the journal full has no event. It is passed over where it would be refused so at
-    the editor's next commit, and nowhere else.
+    A commit line that found the season or the journal full has no event. It is passed over where it
+    would be refused so at the editor's next commit, and nowhere else.
     """
 
     def __init__(self, script, is_merged=True, rules=streams.BUILT):
@@ -162,10 +167,11 @@ def kind(line):
 
 
 def check(text, report, is_merged=True, rules=streams.BUILT):
-    """Raises Wrong where the report is none of a session of the script. What was told, counted, is the answer.
+    """Raises Wrong where the report is none of a session of the script. What was told, counted, is
+    the answer.
 
-    A rehearsal's report is the session's too but for the order, where opens may stand anywhere after their draw: so
-    without `is_merged`.
+    A rehearsal's report is the session's too but for the order, where opens may stand anywhere
+    after their draw: so without `is_merged`.
     """
     history = History(Script(text), is_merged, rules)
     lines = report.split(b"\n")
@@ -194,7 +200,8 @@ def mixed(chance, lists):
 
 
 def entries(script, chance):
-    """The commits and draws in one order: those before `start` as they are written, and those of `settle` last."""
+    """The commits and draws in one order: those before `start` as they are written, and those of
+    `settle` last."""
     before = {id(event) for event in script.first}
     last = len(script.draws) - 2 * script.is_settled
     actors = [*script.commits.values(), script.draws[:last]]

@@ -1,12 +1,13 @@
-"""Ways in which a folder gives no tree, for bench/check/air: each as the cause that is told, a call that brings it about, and one that mends it.
-The cause is None where any process finds it.
+"""Ways in which a folder gives no tree, for bench/check/air: each as the cause that is told, a call
+that brings it about, and one that mends it. The cause is None where any process finds it.
 """
 
 import os
 import shutil
 
 DEEP = [b"%d" % n for n in range(1, 17)]
-# Folders of files each of which fits: by the name, so many files, of so many bytes, and what their names end with.
+# Folders of files each of which fits: by the name, so many files, of so many bytes, and what their
+# names end with.
 LARGE = {"objects": (8_190, 0, ""), "names": (3_122, 0, "n" * 250)}
 VERY_LARGE = {"modules": (2_224, 65_500, ""), "bytes": (16, 16_777_216, ""), "journal": (33, 16_777_216, "")}
 

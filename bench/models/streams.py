@@ -1,16 +1,25 @@
-"""An independent writer of carousels, for tests and benchmarks alone: trees of files as transport packets.
+"""An independent writer of carousels, for tests and benchmarks alone: trees of files as transport
+packets.
 
-A tree has the bytes of each file by its path, and KEPT at the path of a folder that is kept, whether or not something stands in it.
-It shares no code with the crates, so that what they read of its streams says something. As a program:
+A tree has the bytes of each file by its path, and KEPT at the path of a folder that is kept,
+whether or not something stands in it. It shares no code with the crates, so that what they read of
+its streams says something. As a program:
 
-    streams.py FOLDER CYCLES > STREAM        the folder's files, as CYCLES cycles on PID 256
-    streams.py --made MEGABYTES > STREAM     about so many megabytes of made files, one cycle
-    streams.py --folder MEGABYTES FOLDER     the same files in a new folder
-    streams.py --sections FOLDER > SECTIONS  one cycle as sections back to back
-    streams.py --two-diis FOLDER > STREAM    as another sender may do it: two DIIs, and a second version of one file
-    streams.py --two-carousels FOLDER FOLDER > STREAM    a cycle of each, as carousel 1 on PID 256 and 2 on PID 257, packet by packet in turn
-    streams.py --update > STREAM             a cycle of a tree whose one file is /now, and one of the next, in which it says something else
-    streams.py --damaged FOLDER > STREAM     a cycle of the folder's files and a larger one, with losses and damage
+    streams.py FOLDER CYCLES > STREAM                  the folder's files, as CYCLES cycles on PID
+                                                       256
+    streams.py --made MEGABYTES > STREAM               about so many megabytes of made files, one
+                                                       cycle
+    streams.py --folder MEGABYTES FOLDER               the same files in a new folder
+    streams.py --sections FOLDER > SECTIONS            one cycle as sections back to back
+    streams.py --two-diis FOLDER > STREAM              as another sender may do it: two DIIs, and a
+                                                       second version of one file
+    streams.py --two-carousels FOLDER FOLDER > STREAM  a cycle of each, as carousel 1 on PID 256 and
+                                                       2 on PID 257, packet by packet in turn
+    streams.py --update > STREAM                       a cycle of a tree whose one file is /now, and
+                                                       one of the next, in which it says something
+                                                       else
+    streams.py --damaged FOLDER > STREAM               a cycle of the folder's files and a larger
+                                                       one, with losses and damage
 """
 
 import sys
@@ -44,7 +53,8 @@ REVERSED = bytes(int(f"{byte:08b}"[::-1], 2) for byte in range(256))
 
 
 def crc(data):
-    """zlib has the CRC of this polynomial with the bits of each byte, and of the state, the other way round."""
+    """zlib has the CRC of this polynomial with the bits of each byte, and of the state, the other
+    way round."""
     reflected = zlib.crc32(bytes(data).translate(REVERSED)) ^ 0xFFFFFFFF
     return int(f"{reflected:032b}"[::-1], 2)
 
@@ -131,7 +141,8 @@ def size_of(path, files, children):
 
 
 def fresh_placement(sizes, old=None, room=ROOM):
-    """The fresh rule: a module of its own above `room` bytes, else the open module while there is room."""
+    """The fresh rule: a module of its own above `room` bytes, else the open module while there is
+    room."""
     modules, count, open_module, left = [], 0, None, 0
     for size in sizes:
         if size > room:
@@ -148,7 +159,8 @@ def fresh_placement(sizes, old=None, room=ROOM):
 
 
 def kept_placement(sizes, old, room=ROOM, most=MOST_MODULES):
-    """The kept rule: what still has room stays in its old module, and the rest takes the least module with room."""
+    """The kept rule: what still has room stays in its old module, and the rest takes the least
+    module with room."""
     placed, filled = [None] * len(sizes), {}
 
     def has_room(place, module):
@@ -171,7 +183,8 @@ def kept_placement(sizes, old, room=ROOM, most=MOST_MODULES):
 
 
 def spread(ids, rule):
-    """The rule under other numbers: what it puts in its n-th module goes to the n-th of these, of which the first is 1."""
+    """The rule under other numbers: what it puts in its n-th module goes to the n-th of these, of
+    which the first is 1."""
     def place(sizes, old):
         return [ids[n - 1] for n in rule(sizes, [m and ids.index(m) + 1 for m in old])]
 
@@ -194,8 +207,9 @@ def is_block(item):
 
 @dataclass(frozen=True)
 class Generation:
-    """One published tree: its files and kept folders by path, key and module of each object, modules by id, and how often each id has changed.
-    `by` gives the identification of the DII that lists a module."""
+    """One published tree: its files and kept folders by path, key and module of each object,
+    modules by id, and how often each id has changed. `by` gives the identification of the DII that
+    lists a module."""
 
     carousel: int
     number: int
@@ -278,7 +292,8 @@ def first_generation(carousel=1, number=0, by=group_of):
 
 
 def next_generation(before, files, place=fresh_placement):
-    """The generation of a tree after another one, its objects placed by the rule `place` of their sizes and old modules."""
+    """The generation of a tree after another one, its objects placed by the rule `place` of their
+    sizes and old modules."""
     if files == before.files:
         return replace(before, number=before.number + 1)
     objects, children = objects_of(files), children_of(files)
@@ -294,7 +309,8 @@ def next_generation(before, files, place=fresh_placement):
 
 
 def generation(files, carousel=1, place=kept_placement):
-    """The first generation of a tree, after the empty one; placed as the program does it where no other rule is given."""
+    """The first generation of a tree, after the empty one; placed as the program does it where no
+    other rule is given."""
     return next_generation(first_generation(carousel), files, place)
 
 
@@ -375,25 +391,29 @@ def packed(sections, pid=256, counter=0):
 
 @dataclass(frozen=True)
 class Rules:
-    """What a broadcaster may choose: the weights of modules, how sections are laid into packets, where objects are placed."""
+    """What a broadcaster may choose: the weights of modules, how sections are laid into packets,
+    where objects are placed."""
 
     weights: dict = field(default_factory=dict)
     lay: object = packets
     place: object = fresh_placement
 
 
-# What the program does: it sends module 1 twice a cycle, packs sections back to back and keeps objects in their modules.
+# What the program does: it sends module 1 twice a cycle, packs sections back to back and keeps
+# objects in their modules.
 BUILT = Rules({1: 2}, packed, kept_placement)
 
 
 def published(files, cycles, carousel=1, rules=BUILT, pid=256):
-    """The packets of so many cycles of the first generation of a tree, as `publish` writes them, and `publish-on` on other PIDs."""
+    """The packets of so many cycles of the first generation of a tree, as `publish` writes them,
+    and `publish-on` on other PIDs."""
     first = generation(files, carousel, rules.place)
     return rules.lay([section for _ in range(cycles) for section in cycle(first, rules.weights)], pid)
 
 
 def published_in_groups(files, cycles, carousel=1):
-    """The same where each cycle is a group of its own, as `publish-psi` writes them between the tables."""
+    """The same where each cycle is a group of its own, as `publish-psi` writes them between the
+    tables."""
     sections, sent = [*cycle(generation(files, carousel), BUILT.weights)], []
     for _ in range(cycles):
         sent += BUILT.lay(sections, counter=len(sent) % 16)
@@ -401,8 +421,9 @@ def published_in_groups(files, cycles, carousel=1):
 
 
 def two_diis(files):
-    """A cycle of a carousel whose modules are listed by the DIIs of identifications 5 and 9; and then, of its next generation, both
-    DIIs and the blocks of the modules that changed: enough for whoever heard the first."""
+    """A cycle of a carousel whose modules are listed by the DIIs of identifications 5 and 9; and
+    then, of its next generation, both DIIs and the blocks of the modules that changed: enough for
+    whoever heard the first."""
     place = partial(kept_placement, room=300)
     first = next_generation(first_generation(by=lambda m: 5 if m % 2 else 9), files, place)
     path = max(path for path in files if is_file(path, files))
@@ -422,7 +443,8 @@ def two_carousels(one, other):
 
 
 def updated(*trees, rules=BUILT):
-    """The packets of a whole cycle of each of these trees, which are generations one after another; each cycle is a group of its own."""
+    """The packets of a whole cycle of each of these trees, which are generations one after another;
+    each cycle is a group of its own."""
     now, sent = first_generation(), []
     for files in trees:
         now = next_generation(now, files, rules.place)
@@ -436,8 +458,8 @@ def update():
 
 
 def damaged(files):
-    """A cycle of these files and of a larger one, in modules of up to 4,000 bytes, in which packets of two blocks are lost, one comes
-    twice, and a bit of another block is wrong."""
+    """A cycle of these files and of a larger one, in modules of up to 4,000 bytes, in which packets
+    of two blocks are lost, one comes twice, and a bit of another block is wrong."""
     tree = {**files, (b"img", b"map.pbm"): b"P4\n400 400\n" + bytes(n * n // 7 % 251 for n in range(20_000))}
     sent = [*packed([*cycle(generation(tree, place=partial(kept_placement, room=4_000)))])]
     wrong = bytearray(sent[-5])
@@ -450,7 +472,8 @@ def path_below(folder, place):
 
 
 def files_in(folder):
-    """The tree of a folder: its files, and each folder below it in which neither a file nor a folder stands."""
+    """The tree of a folder: its files, and each folder below it in which neither a file nor a
+    folder stands."""
     files = {}
     for at, folders, names in os.walk(folder):
         there = [whole for name in names if os.path.isfile(whole := os.path.join(at, name)) and not os.path.islink(whole)]
@@ -471,8 +494,9 @@ def made(megabytes):
 
 
 def large_stream(folder, megabytes):
-    """The file in `folder` with the packets of about so many megabytes of made files. Where it isn't there, another
-    process makes it: what a process had resident counts as its children's too."""
+    """The file in `folder` with the packets of about so many megabytes of made files. Where it
+    isn't there, another process makes it: what a process had resident counts as its children's
+    too."""
     os.makedirs(folder, exist_ok=True)
     path = os.path.join(folder, f"stream-{megabytes}.ts")
     if not os.path.exists(path):
@@ -483,7 +507,8 @@ def large_stream(folder, megabytes):
 
 
 def large_folder(folder, megabytes):
-    """The folder in `folder` with about so many megabytes of made files. Where it isn't there, another process makes it."""
+    """The folder in `folder` with about so many megabytes of made files. Where it isn't there,
+    another process makes it."""
     path = os.path.join(folder, f"site-{megabytes}")
     if not os.path.exists(path):
         subprocess.run([sys.executable, "-B", __file__, "--folder", str(megabytes), f"{path}.part"], check=True)

@@ -1,9 +1,11 @@
-"""What is told of paths whose answers change, for bench/check/watch and the models' own tests: by the independent receiver, which looks back over
-all that came after each section anew; and receptions to watch.
+"""What is told of paths whose answers change, for bench/check/watch and the models' own tests: by
+the independent receiver, which looks back over all that came after each section anew; and
+receptions to watch.
 
-A case is a reception as bench/check/receptions and bench/check/receptions --many have them, one of a carousel that has a file or folder /now, or one of a
-carousel that turns back and forth: some of its generations come again and again, in any order. Now and then it stands on another PID, among
-packets of another case, or bits of it are damaged at the end, whatever they are of.
+A case is a reception as bench/check/receptions has them, one of a carousel that has a file or
+folder /now, or one of a carousel that turns back and forth: some of its generations come again and
+again, in any order. Now and then it stands on another PID, among packets of another case, or bits
+of it are damaged at the end, whatever they are of.
 """
 
 import itertools
@@ -27,7 +29,8 @@ Notice = namedtuple("Notice", "mark watcher path answer")
 
 
 def looked_back(candidates):
-    """What is held after no section, after one, after two and so on: each time a look back over all of them."""
+    """What is held after no section, after one, after two and so on: each time a look back over all
+    of them."""
     messages = [receiver.read(it) for it in candidates]
     return (receiver.look_back(messages[:count]) for count in range(len(messages) + 1))
 
@@ -42,7 +45,8 @@ def taken_on(candidates):
 
 
 def told(held, paths, prefixes=PREFIXES):
-    """The notices in order, where `held` has what is held after no section, after one, and so on."""
+    """The notices in order, where `held` has what is held after no section, after one, and so
+    on."""
     paths, before = [*dict.fromkeys(paths)], None
     for mark, it in enumerate(held):
         answers = [receiver.resolve(it, path) for path in paths]
@@ -95,7 +99,8 @@ class Current(Broadcaster):
 
 
 def back_and_forth(chance):
-    """Two or three generations, near to each other or not, parts of which come in turn or in any order."""
+    """Two or three generations, near to each other or not, parts of which come in turn or in any
+    order."""
     caster, air = Current(chance), Air(chance)
     made = [caster.now]
     for _ in range(chance.choice([1, 1, 2])):
@@ -121,7 +126,8 @@ def reception(chance, number):
 
 
 def asked(chance, paths):
-    """The paths of a reception, /now, what may be below it, what isn't, and some of all these once more."""
+    """The paths of a reception, /now, what may be below it, what isn't, and some of all these once
+    more."""
     paths = [*paths, (b"now",), (b"now", b"a"), (b"nowhere",), (b"d", b"now"), *((b"now", *it) for it in paths[:3])]
     paths = [it for it in paths if len(it) <= DEEPEST and all(map(is_name, it))]
     chance.shuffle(paths)
@@ -129,8 +135,9 @@ def asked(chance, paths):
 
 
 def moving_gateway():
-    """The sections of four modules, each with a folder of one file, and of a gateway that moves from the first of these to the last. The
-    second file has other bytes, as many; the third folder has another name; and the fourth is as the third."""
+    """The sections of four modules, each with a folder of one file, and of a gateway that moves
+    from the first of these to the last. The second file has other bytes, as many; the third folder
+    has another name; and the fourth is as the third."""
     modules = {}
     for m, (name, content) in enumerate([(b"a", b"one"), (b"a", b"two"), (b"b", b"two"), (b"b", b"two")], 1):
         bound = streams.binding(name, True, streams.ior(b"fil\0", 1, m, streams.key_bytes(2)), len(content))

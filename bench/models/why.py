@@ -1,4 +1,5 @@
-"""What is wrong with the words of a command, by the words that stand on its page of help and their ranges there."""
+"""What is wrong with the words of a command, by the words that stand on its page of help and their
+ranges there."""
 
 import os
 import re

@@ -1,6 +1,6 @@
-//! The plain receiver and the plain broadcaster as a program, for comparisons of time: `record PID`, `open PID PATH..`,
-//! `open sections PATH..`, `list PID`, `watch PID PATH..` and `publish FOLDER CAROUSEL CYCLES`, as ./carousel has them, but that
-//! `watch` writes in large pieces.
+//! The plain receiver and the plain broadcaster as a program, for comparisons of time: `record
+//! PID`, `open PID PATH..`, `open sections PATH..`, `list PID`, `watch PID PATH..` and `publish
+//! FOLDER CAROUSEL CYCLES`, as ./carousel has them, but that `watch` writes in large pieces.
 
 #[path = "../models/publisher.rs"]
 mod publisher;
@@ -78,7 +78,8 @@ fn watch(pid: u16, paths: &[Path], out: &mut impl Write) -> io::Result<()> {
     result
 }
 
-/// What is held after the packets of a PID, or after sections back to back; None where the word is neither.
+/// What is held after the packets of a PID, or after sections back to back; None where the word is
+/// neither.
 fn heard(place: &str) -> io::Result<Option<Tuner>> {
     let mut tuner = Tuner::default();
     if place == "sections" {

@@ -1,5 +1,5 @@
-//! The plain receiver's CRC of sections as a program, for bench/speed/speed --crc alone: the sums of standard input from its first
-//! byte on, from its second on and so on, COUNT of them, in one.
+//! The plain receiver's CRC of sections as a program, for bench/speed/speed --crc alone: the sums
+//! of standard input from its first byte on, from its second on and so on, COUNT of them, in one.
 
 #[path = "../models/receiver.rs"]
 #[allow(dead_code)]

@@ -1,9 +1,11 @@
-//! Plain readers under one `std::sync::Mutex`, for the comparison in bench/speed/opens alone: `READERS ROUNDS`. In each round so many
-//! threads make 120,000 opens in all, by turns of a file, of its folder and of a name that isn't there, while a feeder replaces
-//! the shot until all of them are through. What is printed is how many opens answered the file.
+//! Plain readers under one `std::sync::Mutex`, for the comparison in bench/speed/opens alone:
+//! `READERS ROUNDS`. In each round so many threads make 120,000 opens in all, by turns of a file,
+//! of its folder and of a name that isn't there, while a feeder replaces the shot until all of them
+//! are through. What is printed is how many opens answered the file.
 //!
-//! A shot stands behind `Arc` in the mutex. An open takes the lock for as long as it takes to clone the `Arc`, and resolves its
-//! path on the shot that it got; answers on one shot are kept, up to 64 of them.
+//! A shot stands behind `Arc` in the mutex. An open takes the lock for as long as it takes to clone
+//! the `Arc`, and resolves its path on the shot that it got; answers on one shot are kept, up to 64
+//! of them.
 
 use std::collections::HashMap;
 use std::sync::atomic::{AtomicU64, Ordering};
@@ -70,7 +72,8 @@ fn number(bytes: &[u8]) -> usize {
     bytes.iter().fold(0, |all, byte| all << 8 | *byte as usize)
 }
 
-/// A module's index: keys of four bytes, files, and folders whose bindings have one component and an IOR of 55 bytes.
+/// A module's index: keys of four bytes, files, and folders whose bindings have one component and
+/// an IOR of 55 bytes.
 fn read(bytes: Vec<u8>) -> Module {
     let (mut at, mut index) = (0, Vec::new());
     while at < bytes.len() {

@@ -1,5 +1,6 @@
-//! Runs a command, writes to a file how many bytes it had resident at most, and ends with its status. For bench/tools/measure.py:
-//! the system counts what the process that starts a command has resident for the command too, and this one has little.
+//! Runs a command, writes to a file how many bytes it had resident at most, and ends with its
+//! status. For bench/tools/measure.py: the system counts what the process that starts a command has
+//! resident for the command too, and this one has little.
 //!
 //!     resident FILE COMMAND..
 
@@ -7,7 +8,8 @@ use std::ffi::c_int;
 use std::io::{Error, Result};
 use std::process::{Command, exit};
 
-/// The system's account of a process, in the layout of 64-bit Linux: two times of two numbers each, and fourteen numbers.
+/// The system's account of a process, in the layout of 64-bit Linux: two times of two numbers each,
+/// and fourteen numbers.
 #[repr(C)]
 #[derive(Default)]
 struct Usage {
@@ -24,7 +26,8 @@ unsafe extern "C" {
 fn run(words: &[String]) -> Result<(c_int, i64)> {
     let child = Command::new(&words[0]).args(&words[1..]).spawn()?;
     let (mut status, mut usage) = (0, Usage::default());
-    // SAFETY: both pointers are to values of this frame, and the child is this process's own and was never waited for.
+    // SAFETY: both pointers are to values of this frame, and the child is this process's own and
+    // was never waited for.
     if unsafe { wait4(child.id() as c_int, &mut status, 0, &mut usage) } < 0 {
         return Err(Error::last_os_error());
     }

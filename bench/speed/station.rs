@@ -1,9 +1,11 @@
-//! A plain catalogue under `std::sync::Mutex`, for the comparison in bench/speed/station alone: `EDITORS ROUNDS`. In each round
-//! so many threads make 16,000 commits in all, each a put of 8 bytes as the same file. With 0 editors there is no lock.
-//! What is printed is how many commits were accepted.
+//! A plain catalogue under `std::sync::Mutex`, for the comparison in bench/speed/station alone:
+//! `EDITORS ROUNDS`. In each round so many threads make 16,000 commits in all, each a put of 8
+//! bytes as the same file. With 0 editors there is no lock. What is printed is how many commits
+//! were accepted.
 //!
-//! A commit makes the next tree, a sorted list of paths and bytes behind `Arc`, lays its files and their folder out in a
-//! module as BIOP messages, and enters the edits with the number of the generation.
+//! A commit makes the next tree, a sorted list of paths and bytes behind `Arc`, lays its files and
+//! their folder out in a module as BIOP messages, and enters the edits with the number of the
+//! generation.
 
 use std::sync::{Arc, Mutex};
 use std::thread;

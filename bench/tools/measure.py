@@ -1,4 +1,5 @@
-"""How long a command takes, and what memory it needs, for the scripts of this folder that measure."""
+"""How long a command takes, and what memory it needs, for the scripts of this folder that
+measure."""
 
 import os
 import subprocess
@@ -6,14 +7,16 @@ import tempfile
 import time
 from collections import namedtuple
 
-# Seconds by the clock and of the processor, the most bytes resident, and the bytes written where they were counted. The
-# system counts what this process has resident (about 20 MiB) for its children too, so less than that isn't seen.
+# Seconds by the clock and of the processor, the most bytes resident, and the bytes written where
+# they were counted. The system counts what this process has resident (about 20 MiB) for its
+# children too, so less than that isn't seen.
 Measured = namedtuple("Measured", "taken processor resident written")
 
 
 def measured(words, source=None, counts=False, statuses=(0,)):
-    """Runs a command whose input comes through a pipe from a file, or is empty, and which ends with one of these statuses. Its output
-    is passed over, or counted by `wc` at the other end of a pipe."""
+    """Runs a command whose input comes through a pipe from a file, or is empty, and which ends with
+    one of these statuses. Its output is passed over, or counted by `wc` at the other end of a
+    pipe."""
     feeder = subprocess.Popen(["cat", source], stdout=subprocess.PIPE) if source else None
     began = time.monotonic()
     child = subprocess.Popen(words, stdin=feeder.stdout if feeder else subprocess.DEVNULL, stdout=subprocess.PIPE if counts else subprocess.DEVNULL)
@@ -41,8 +44,8 @@ def best(words, source=None, counts=False, runs=3):
 
 
 def resident(helper, words, source):
-    """The status of a command whose input is a file, and the most bytes that it had resident, to within 2 MiB. `helper` is
-    the program of resident.rs. The output is passed over."""
+    """The status of a command whose input is a file, and the most bytes that it had resident, to
+    within 2 MiB. `helper` is the program of resident.rs. The output is passed over."""
     with tempfile.NamedTemporaryFile("r") as said, open(source, "rb") as stream:
         status = subprocess.run([helper, said.name, *words], stdin=stream, stdout=subprocess.DEVNULL).returncode
         return status, int(said.read())

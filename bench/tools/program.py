@@ -1,8 +1,8 @@
 """What the scripts under bench/ share: where the program is, how it is run, and how differences are
 reported.
 
-The program is the one that the environment variable CAROUSEL names, or the one that ./carousel runs.
-That of crates/bench_programs is the one that BENCH_PROGRAMS names, or rt builds it.
+The program is the one that the environment variable CAROUSEL names, or the one that ./carousel
+runs. That of crates/bench_programs is the one that BENCH_PROGRAMS names, or rt builds it.
 """
 
 import os
@@ -45,8 +45,8 @@ def find():
 
 
 def measured_work(*words):
-    """The words that start a work of crates/bench_programs, which is proved and built first where it
-    is missing or old."""
+    """The words that start a work of crates/bench_programs, which is proved and built first where
+    it is missing or old."""
     given = os.environ.get("BENCH_PROGRAMS")
     if given:
         return [given, *words]
@@ -82,8 +82,8 @@ def shim(room):
 
 
 def over_libdvbpsi(source, room):
-    """A program in C over libdvbpsi, built in the folder `room`; None where the library's header or a
-    C compiler isn't there."""
+    """A program in C over libdvbpsi, built in the folder `room`; None where the library's header or
+    a C compiler isn't there."""
     made = os.path.join(room, "dvbpsi")
     with open(f"{made}.c", "w") as out:
         out.write(source)
@@ -113,13 +113,15 @@ def shortened(line):
 
 
 class Tally:
-    """Counts what was compared and what differed, and keeps the input of each of the first differences."""
+    """Counts what was compared and what differed, and keeps the input of each of the first
+    differences."""
 
     def __init__(self):
         self.compared, self.differences, self.folder = 0, 0, None
 
     def compare(self, again, words, stream, wanted, got):
-        """Compares the model's ending with the program's. `again` is the command that makes this case once more."""
+        """Compares the model's ending with the program's. `again` is the command that makes this
+        case once more."""
         self.compared += 1
         if wanted == got:
             return
@@ -130,7 +132,8 @@ class Tally:
             print(excerpt(wanted.out, got.out), flush=True)
 
     def differ(self, text, *streams):
-        """Reports a difference. In its text each {} is the file in which the input at its place is kept."""
+        """Reports a difference. In its text each {} is the file in which the input at its place is
+        kept."""
         self.differences += 1
         if self.differences > MOST_SHOWN:
             return

@@ -1,4 +1,5 @@
-//! Made carousels: objects in modules, most of which are sound, with bindings that lead in circles, elsewhere or nowhere.
+//! Made carousels: objects in modules, most of which are sound, with bindings that lead in circles,
+//! elsewhere or nowhere.
 
 use super::chance::Chance;
 use super::writer::*;
@@ -46,10 +47,12 @@ struct Object {
 
 const NAMES: [&[u8]; 10] = [b"a", b"b", b"c", b"d", b"e", b"f", b"index.html", b"a b%", b"\xC3\xA9", b"l"];
 
-/// What stands in a binding where a name should: empty, with zeros and slashes, too long, or without the zero at its end.
+/// What stands in a binding where a name should: empty, with zeros and slashes, too long, or
+/// without the zero at its end.
 const ODD_NAMES: [&[u8]; 9] = [b"", b"\0", b"x/y\0", b"z\0z\0", b"a\0\0", b"e", b"..\0", &[b'q'; 255], b"/\0"];
 
-/// A binder whose tap says so much of the transaction that delivers the object, and of another kind of selector.
+/// A binder whose tap says so much of the transaction that delivers the object, and of another kind
+/// of selector.
 fn odd_binder(selector_kind: u16, transaction: u32, length: usize) -> Vec<u8> {
     let selector = Vec::new().u16(selector_kind).u32(transaction).u32(0xFFFF_FFFF);
     Vec::new().u8(1).u16(0).u16(DELIVERY).u16(1).counted8(&selector[..length])
@@ -189,7 +192,8 @@ impl Maker<'_> {
         }
     }
 
-    /// A binding with an odd reference, and now and then with an odd name, at any place of some folder.
+    /// A binding with an odd reference, and now and then with an odd name, at any place of some
+    /// folder.
     fn put_odd_binding(&mut self) {
         let folder = self.some(Kind::Folder);
         let (target, name) = (self.odd_reference(), self.name());
@@ -201,8 +205,8 @@ impl Maker<'_> {
         self.objects[folder].bindings.insert(place, binding(&id, &target));
     }
 
-    /// A binding of two name components, or with a reference whose type says that it takes five bytes, and does or doesn't.
-    /// Its folder doesn't read.
+    /// A binding of two name components, or with a reference whose type says that it takes five
+    /// bytes, and does or doesn't. Its folder doesn't read.
     fn put_broken_binding(&mut self) {
         let (folder, target) = (self.some(Kind::Folder), self.reference_to(0));
         let broken = match self.chance.below(3) {

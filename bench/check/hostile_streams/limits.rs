@@ -58,8 +58,8 @@ fn one_file(size: u32, block_size: u16, chance: &mut Chance) -> Vec<Vec<u8>> {
     [begin, blocks(1, &gateway, block_size), blocks(2, &file, block_size)].concat()
 }
 
-/// A DII whose modules' sum is the greatest, after one and before another that don't list the gateway's module. The later
-/// one has a byte too many.
+/// A DII whose modules' sum is the greatest, after one and before another that don't list the
+/// gateway's module. The later one has a byte too many.
 fn greatest_sum(chance: &mut Chance) -> Vec<Vec<u8>> {
     let (size, gateway) = (MOST_BLOCK as u16, gateway());
     let full: Vec<Line> = (2..).map(|id| line(id, MOST_MODULE)).take((MOST_SUM / MOST_MODULE) as usize).collect();

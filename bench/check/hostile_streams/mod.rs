@@ -1,5 +1,6 @@
-//! Streams of transport packets with everything wrong in them that a receiver can meet, for bench/check/hostile. What is sent and
-//! what befalls it comes from a number alone, so that each stream can be made again.
+//! Streams of transport packets with everything wrong in them that a receiver can meet, for
+//! bench/check/hostile. What is sent and what befalls it comes from a number alone, so that each
+//! stream can be made again.
 
 mod carousels;
 mod chance;
@@ -47,7 +48,8 @@ fn limit_piece(pid: u16, chance: &mut Chance) -> Piece {
     Piece { bytes, sections: sections.concat(), pid, paths }
 }
 
-/// Stretches of a made carousel, good ones and forged ones, each with what befalls it, and an end that arrives unhurt.
+/// Stretches of a made carousel, good ones and forged ones, each with what befalls it, and an end
+/// that arrives unhurt.
 fn carousel_piece(pid: u16, most: usize, chance: &mut Chance) -> Piece {
     let is_small = most <= SMALL || chance.one_in(4);
     let length = chance.within(1..=if is_small { SMALL.min(most) } else { most });

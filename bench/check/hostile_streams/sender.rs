@@ -1,4 +1,5 @@
-//! What is sent of a made carousel: good stretches of its sections, and forged ones with a right CRC.
+//! What is sent of a made carousel: good stretches of its sections, and forged ones with a right
+//! CRC.
 
 use super::carousels::Carousel;
 use super::chance::Chance;
@@ -140,8 +141,8 @@ impl<'a> Sender<'a> {
         [self.dsi(), self.dii()].into_iter().chain(blocks).collect()
     }
 
-    /// The last sections of a piece: a good cycle, one of hurt modules, one with an odd DII, a DII of a far version that
-    /// changes nothing else, or none.
+    /// The last sections of a piece: a good cycle, one of hurt modules, one with an odd DII, a DII
+    /// of a far version that changes nothing else, or none.
     pub fn end(&mut self, chance: &mut Chance) -> Sections {
         match chance.below(12) {
             0 => Sections::new(),
@@ -276,7 +277,8 @@ impl<'a> Sender<'a> {
         sections
     }
 
-    /// A sound section of the kind. Each DII has a version of its own, so that it turns. Without blocks it is a DSI.
+    /// A sound section of the kind. Each DII has a version of its own, so that it turns. Without
+    /// blocks it is a DSI.
     fn sound(&mut self, target: Target, chance: &mut Chance) -> Vec<u8> {
         let blocks = self.blocks();
         match target {
@@ -292,8 +294,8 @@ impl<'a> Sender<'a> {
         }
     }
 
-    /// DIIs of two to four versions by turns, with nothing or some blocks between. The versions are near each other, or 255
-    /// to 257 apart.
+    /// DIIs of two to four versions by turns, with nothing or some blocks between. The versions are
+    /// near each other, or 255 to 257 apart.
     fn alternating(&mut self, chance: &mut Chance) -> Sections {
         let apart = chance.pick(&[1, 1, 255, 256, 256, 257, 16_127]);
         let between = chance.pick(&[0, 1, 5]);
@@ -323,7 +325,8 @@ impl<'a> Sender<'a> {
         blocks.into_iter().map(|(module, block)| self.block(module, block)).collect()
     }
 
-    /// DIIs of another download, identification or block size, and with lines that belong in no DII.
+    /// DIIs of another download, identification or block size, and with lines that belong in no
+    /// DII.
     fn odd_diis(&mut self, chance: &mut Chance) -> Sections {
         let mut sections = Sections::new();
         for _ in 0..chance.within(1..=30) {
@@ -338,8 +341,9 @@ impl<'a> Sender<'a> {
         sections
     }
 
-    /// Blocks of a wrong length, place, module, version or download, and of other bytes. Mostly they come when every module
-    /// has just changed, so that a block that is taken by mistake stays.
+    /// Blocks of a wrong length, place, module, version or download, and of other bytes. Mostly
+    /// they come when every module has just changed, so that a block that is taken by mistake
+    /// stays.
     fn odd_blocks(&mut self, chance: &mut Chance) -> Sections {
         let mut sections = Sections::new();
         if !chance.one_in(3) {
@@ -469,8 +473,8 @@ fn with_another_byte(section: &[u8], place: usize, chance: &mut Chance) -> Vec<u
     section
 }
 
-/// The section with bytes more in its message's adaptation, in its compatibility descriptor or after its message, where
-/// there is room for them.
+/// The section with bytes more in its message's adaptation, in its compatibility descriptor or
+/// after its message, where there is room for them.
 fn spelled_otherwise(section: &[u8], chance: &mut Chance) -> Vec<u8> {
     let mut longer = section.to_vec();
     let descriptor = match u16::from_be_bytes([section[10], section[11]]) {
@@ -500,7 +504,8 @@ fn spelled_otherwise(section: &[u8], chance: &mut Chance) -> Vec<u8> {
     longer
 }
 
-/// The section with its payload cut at a place, or as much of it as a section needs, with a right length and CRC.
+/// The section with its payload cut at a place, or as much of it as a section needs, with a right
+/// length and CRC.
 fn cut(section: &[u8], place: usize, chance: &mut Chance) -> Vec<u8> {
     let mut section = section[..place.max(3)].to_vec().u32(0);
     fit_message(&mut section, chance);

@@ -75,8 +75,9 @@ impl Lane {
         packets
     }
 
-    /// Each section begins a packet, and now and then a start packet that belongs to none comes between its packets: with
-    /// nothing but filling, with a section behind filling, or with a pointer that leads out of it.
+    /// Each section begins a packet, and now and then a start packet that belongs to none comes
+    /// between its packets: with nothing but filling, with a section behind filling, or with a
+    /// pointer that leads out of it.
     pub fn interrupted(&mut self, sections: &[Vec<u8>], chance: &mut Chance) -> Vec<Packet> {
         let short = sections.iter().find(|it| it.len() <= 170).map_or(&[][..], |it| it);
         let hidden = [&[0, 0xFF, 0, 0], short].concat();
@@ -93,7 +94,8 @@ impl Lane {
         packets
     }
 
-    /// Each section begins a packet, and each packet has an adaptation field and few bytes of the section.
+    /// Each section begins a packet, and each packet has an adaptation field and few bytes of the
+    /// section.
     pub fn thin(&mut self, sections: &[Vec<u8>], chance: &mut Chance) -> Vec<Packet> {
         let mut packets = Vec::new();
         for section in sections {
@@ -268,7 +270,8 @@ fn stray(pid: u16, chance: &mut Chance) -> Packet {
     packet
 }
 
-/// The packet with an adaptation field before its payload where the payload ends in filling, and else as it is.
+/// The packet with an adaptation field before its payload where the payload ends in filling, and
+/// else as it is.
 fn with_field(packet: &Packet, chance: &mut Chance) -> Packet {
     let kept = PACKET - packet[4..].iter().rev().take_while(|&&byte| byte == 0xFF).count();
     if packet[3] >> 4 != 1 || kept == PACKET {

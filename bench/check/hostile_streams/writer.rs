@@ -1,5 +1,5 @@
-//! Sections, messages, references and objects, each as the standards spell it. What is wrong in them comes later, or comes in
-//! by the arguments.
+//! Sections, messages, references and objects, each as the standards spell it. What is wrong in
+//! them comes later, or comes in by the arguments.
 
 use crate::receiver::crc;
 
@@ -186,7 +186,8 @@ pub fn file_body(content: &[u8]) -> Vec<u8> {
     Vec::with_capacity(content.len() + 4).counted32(content)
 }
 
-/// The bytes of a name as they stand in a binding, mostly with a zero byte at their end, and what it is bound to.
+/// The bytes of a name as they stand in a binding, mostly with a zero byte at their end, and what
+/// it is bound to.
 pub fn binding(name: &[u8], reference: &[u8]) -> Vec<u8> {
     Vec::new().u8(1).counted8(name).counted8(FILE).u8(1).bytes(reference).u16(0)
 }
