@@ -162,36 +162,46 @@ choose() {
     return 1
 }
 
-# The choice, and what changes whenever anything does that it depends on: the system, and inode and
-# time of change of each source and each program. No program can set these.
+# Lists what the choice depends on: the sources, the programs, the folders of both, whether they are
+# there or not, and the system's loader, which is another file on another system.
+list_traced() {
+    local crate
+    cd "$top" || return
+    printf '%s\0' /lib64/ld-linux-x86-64.so.2 crates crates/carousel/out/{carousel,SOURCES}
+    for crate in crates/*; do
+        printf '%s\0' "$crate"/{src,specs,proofs}
+    done
+    find release crates.txt HANDLES crates/*/{src,specs,proofs} -print0
+} 2>/dev/null
+
+# Tells the choice, and what changes whenever a listed file does: its inode and the time of its last
+# change, which no program can set. A file that isn't there has no line.
 tell_choice() {
-    local -x LC_ALL=C
     printf '%s\n' "${program#"$top/"}" "$sources" "$kit"
     uname -m
-    getconf GNU_LIBC_VERSION
-    find_sources "$place" "$out"/{carousel,SOURCES} -printf '%i %C@\n'
+    cd "$top" && LC_ALL=C xargs -0 stat -c '%i %.Z'
 } 2>/dev/null
 
 # Chooses anew, and keeps the choice for later calls. It isn't kept if something changed since the
 # choice began: each file has to be older than a new one, also where a clock is coarse.
 choose_and_keep() {
-    local -x LC_ALL=C
-    local new=$1.$$ began
+    local new=$1.$$ list=$2.$$ began
     { [ -d "$out" ] || mkdir "$out"; } 2>/dev/null && : 2>/dev/null >"$new"
-    began=$(find "$new" -printf '%C@' 2>/dev/null)
+    began=$(LC_ALL=C stat -c %.Z "$new" 2>/dev/null)
     choose || program=''
     if [ -n "$program" ] && [ -n "$began" ]; then
-        tell_choice >"$new"
-        awk -v began="$began" '$2 >= began { exit found = 1 } END { exit found }' "$new" &&
-            mv -f "$new" "$1"
+        (list_traced) >"$list"
+        (tell_choice) <"$list" >"$new"
+        LC_ALL=C awk -v began="$began" '$2 >= began { exit young = 1 } END { exit young }' "$new" &&
+            mv -f "$list" "$2" && mv -f "$new" "$1"
     fi
-    rm -f "$new"
+    rm -f "$new" "$list"
     [ -n "$program" ]
 }
 
-# Finds the program of these sources; for the next call the choice lies in `rt ci`'s folder.
+# Finds the program of these sources, or takes the choice that an earlier call kept.
 find_program() {
-    local chosen=$out/chosen folder=''
+    local chosen=$out/chosen list=$out/traced folder=''
     if ! in_repository; then
         read_sources "$place"
         take "$place"
@@ -200,7 +210,7 @@ find_program() {
     { read -r folder && read -r sources && read -r kit; } 2>/dev/null <"$chosen"
     program=$top/$folder
     # A trap between the two commands of a pipe would have bash leave out the second one.
-    [ -n "$(tell_choice | cmp -s - "$chosen" || echo other)" ] || return 0
+    [ -n "$({ tell_choice <"$list" | cmp -s - "$chosen"; } 2>/dev/null || echo other)" ] || return 0
     program=''
-    choose_and_keep "$chosen"
+    choose_and_keep "$chosen" "$list"
 }
