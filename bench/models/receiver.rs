@@ -19,8 +19,9 @@ const BINDER: u32 = 0x4953_4F40;
 
 // The CRC
 //
-// Let y be x^8, one byte's shift. Modulo the polynomial y^300 = y^155 + y^117 + y^89 + 1. So the CRC
-// stays the same if a byte goes, and is combined with those 145, 183, 211 and 300 places after it.
+// Let y be x^8, one byte's shift. Then y^300 = y^155 + y^117 + y^89 + 1 modulo the polynomial. So
+// the CRC stays the same if a byte goes, and is combined by exclusive or with the bytes 145, 183,
+// 211 and 300 places after it.
 
 /// How far a byte is carried at most.
 const REACH: usize = 300;
@@ -30,8 +31,8 @@ const REST: usize = 304;
 const MOST_FOLDED: usize = 4096;
 const LEAST_FOLDED: usize = 448;
 
-/// A byte that was carried on is `REACH` places after its own. Before all of them are four bytes for
-/// a state, and zeros.
+/// The bytes that were carried on, each `REACH` places after its own. Before them are the four
+/// bytes of a state, and zeros.
 type Scratch = [u8; REACH + MOST_FOLDED];
 
 thread_local! {
@@ -66,7 +67,7 @@ const fn tables() -> [[u32; 256]; 16] {
 
 static TABLES: [[u32; 256]; 16] = tables();
 
-/// The state after the bytes, by tables, sixteen bytes a step. Four of the sixteen wait for the state.
+/// The state after the bytes, by tables, sixteen bytes a step. Only four wait for the state.
 pub fn sliced(mut state: u32, bytes: &[u8]) -> u32 {
     let entry = |place: usize, byte: u8| TABLES[15 - place][byte as usize];
     let (steps, tail) = bytes.as_chunks::<16>();
@@ -86,8 +87,8 @@ fn combined(scratch: &Scratch, place: usize, byte: u8) -> u8 {
     byte ^ scratch[place + 155] ^ scratch[place + 117] ^ scratch[place + 89] ^ scratch[place]
 }
 
-/// The state after the bytes. All but the last `REST` are carried on, and as none goes less than 145
-/// places the compiler takes sixteen at once.
+/// The state after the bytes. All but the last `REST` are carried on. As each goes 145 places or
+/// more, the compiler takes sixteen at once.
 fn folded(scratch: &mut Scratch, state: u32, bytes: &[u8]) -> u32 {
     let Some((front, rest)) = bytes.split_last_chunk::<REST>() else { return sliced(state, bytes) };
     scratch[..4].copy_from_slice(&state.to_be_bytes());

@@ -21,15 +21,16 @@ fn by_bits(state: u32, byte: u8) -> u32 {
     })
 }
 
-/// The first length at which a CRC is wrong. Above 1,000 bytes those around one and two pieces that
-/// are folded together are tried.
+/// The first length at which a CRC is wrong. Above 1,000 bytes only some are tried, near one and
+/// two pieces that are folded together.
 fn first_wrong() -> Option<usize> {
     let bytes: Vec<u8> = (0..9000u32).map(|it| (it.wrapping_mul(0x9E37_79B1) >> 24) as u8).collect();
     let mut right = START;
     (0..=bytes.len()).find(|&length| {
-        right = if length == 0 { START } else { by_bits(right, bytes[length - 1]) };
+        let tried = &bytes[..length];
+        right = tried.last().map_or(START, |&byte| by_bits(right, byte));
         let is_tried = length <= 1000 || (4000..4600).contains(&length) || length > 8100;
-        is_tried && (receiver::crc(&bytes[..length]) != right || receiver::sliced(START, &bytes[..length]) != right)
+        is_tried && (receiver::crc(tried) != right || receiver::sliced(START, tried) != right)
     })
 }
 
@@ -44,7 +45,7 @@ fn main() {
         assert!(wrong.is_none(), "the CRC of {wrong:?} bytes is wrong");
         return;
     }
-    let [kernel, rounds, length] = &words[..] else { panic!("wants a kernel, rounds and a length") };
+    let [kernel, rounds, length] = &words[..] else { panic!("wants KERNEL ROUNDS LENGTH") };
     let (rounds, length) = (rounds.parse().unwrap(), length.parse().unwrap());
     let mut bytes = Vec::new();
     std::io::stdin().read_to_end(&mut bytes).unwrap();
