@@ -60,13 +60,14 @@ def measured_work(*words):
 
 
 def compiled(source):
-    """The program of a Rust source under bench/, which is named without its ending, by rustc."""
+    """The program of a Rust source under bench/, which is named without its ending, by rustc, for
+    the processors that the kit builds for."""
     if not shutil.which("rustc"):
         not_run(f"rustc, which compiles {source}.rs, isn't installed")
     made = os.path.join(WORK, os.path.basename(source))
     os.makedirs(WORK, exist_ok=True)
-    words = ["rustc", "--edition", "2024", "-O", "-o", made, os.path.join(BENCH, f"{source}.rs")]
-    subprocess.run(words, check=True)
+    how = ["--edition", "2024", "-O", "-C", "target-cpu=x86-64-v2"]
+    subprocess.run(["rustc", *how, "-o", made, os.path.join(BENCH, f"{source}.rs")], check=True)
     return made
 
 
@@ -87,7 +88,7 @@ def over_libdvbpsi(source, room):
     made = os.path.join(room, "dvbpsi")
     with open(f"{made}.c", "w") as out:
         out.write(source)
-    words = ["cc", "-o", made, f"{made}.c", "-ldvbpsi"]
+    words = ["cc", "-O2", "-o", made, f"{made}.c", "-ldvbpsi"]
     if shutil.which("cc") and subprocess.run(words, capture_output=True).returncode == 0:
         return made
     return None
