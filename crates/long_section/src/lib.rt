@@ -1,6 +1,6 @@
-//! The frame of long sections (ISO/IEC 13818-1, 2.4.4): eight bytes before a body and the CRC after it. Tables of program
-//! specific information and the sections of DSM-CC have it in common; which tables there are, how long a section may be, and
-//! in which order faults are looked for, each of the two says for itself.
+//! The frame of long sections (ISO/IEC 13818-1, 2.4.4): eight bytes before a body, the CRC after
+//! it. PSI tables and DSM-CC sections share it. Each sets its own table ids, limits and order of
+//! faults.
 //!
 //! ```
 //! use long_section::{Header, frame_of, write_frame};
@@ -20,13 +20,13 @@ use oc_bytes::{MOST_LENGTH, NoMemory};
 use section_crc::crc;
 use std::alloc::Global;
 
-/// The bytes of a section round its body: eight before it and the CRC's four.
+/// The bytes of a section around its body.
 pub const ROUND: usize = 12;
 
-/// What a frame says beside its table and its body.
+/// A frame's fields, except table and body.
 #[derive(Clone, Copy, Debug)]
 pub struct Header {
-    /// table_id_extension, any number of 16 bits.
+    /// table_id_extension.
     pub extension: u16,
     /// version_number, 0 to 31.
     pub version: u8,
@@ -36,17 +36,16 @@ pub struct Header {
     pub last: u8,
 }
 
-/// A section's fields, its body lent.
+/// A section's fields.
 #[derive(Clone, Copy, Debug)]
 pub struct Frame<'a> {
     /// The fields before the body.
     pub header: Header,
-    /// What stands between the header and the CRC.
+    /// What is between header and CRC.
     pub body: &'a [u8],
 }
 
-/// The fields that stand in the bytes of a section, which has 12 bytes at least. Nothing else is looked at: neither the table
-/// nor a length, an indicator or the CRC.
+/// The fields in a section of at least 12 bytes. It checks no table, length, indicator or CRC.
 #[inline]
 pub fn frame_of(bytes: &[u8]) -> Frame<'_>
     requires { ROUND ≤ length bytes.now }
@@ -63,7 +62,6 @@ pub fn frame_of(bytes: &[u8]) -> Frame<'_>
     }
 }
 
-/// The fields before the body, which is both parts: 8 bytes.
 fn header_bytes(id: u8, header: &Header, front: &[u8], rest: &[u8]) -> [u8; 8]
     requires version { header.now.version < 32 }
     requires room { length front.now + length rest.now + 9 ≤ MOST_LENGTH }
@@ -92,10 +90,10 @@ fn header_bytes(id: u8, header: &Header, front: &[u8], rest: &[u8]) -> [u8; 8]
     ]
 }
 
-/// Writes the section of table `id` whose body is `front` and then `rest`, both lent, so that each is copied once: its one
-/// spelling, with private_indicator 0, every reserved bit 1, current_next_indicator 1 and the CRC in the last four bytes.
+/// Writes the section of table `id` with the body `front`, then `rest`, each copied once.
 ///
-/// `header.version` is 0 to 31, and the body has at most 4,084 bytes. `Err` comes only where the bytes find no memory.
+/// The version is 0 to 31, the body at most 4,084 bytes. private_indicator is 0;
+/// current_next_indicator and reserved bits are 1. `Err` is out of memory.
 pub fn write_frame(
     alloc: Global,
     id: u8,
@@ -118,8 +116,7 @@ pub fn write_frame(
     Ok(bytes)
 }
 
-/// What holds of each frame, whoever wrote it: a spelling is a frame of its fields, its length field counts the bytes after it,
-/// and of a frame that stands in bytes its own fields are taken out.
+/// What holds of each frame, whoever wrote it.
 pub fn frames_are_read()
     ensures spelled { (most id : ℕ) (f : Fields) → Fits most f → IsFrame most id (spelling id f) f }
     ensures read { (most id : ℕ) (bytes : List ℕ) (f : Fields)
