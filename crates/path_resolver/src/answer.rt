@@ -9,7 +9,7 @@ use std::alloc::AllocError;
 use std::marker::Model;
 use std::sync::Arc;
 
-/// The content of a file in a module that is shared: no byte is copied. Seen as the file's bytes.
+/// A file's content in a shared module. No byte is copied.
 #[derive(Drop)]
 pub struct FileRef {
     module: Arc<Module>,
@@ -30,7 +30,6 @@ impl Model for FileRef {
 }
 
 impl FileRef {
-    /// The bytes of a span of the module.
     pub(crate) fn new(home: &Arc<Module>, span: Span) -> Result<FileRef, NoMemory>
         requires { span.first + span.length ≤ length (arc_value home.now) }
         ensures { IfOk result (λ r. r ≡ take span.length (drop span.first (arc_value home.now))) }
@@ -39,7 +38,7 @@ impl FileRef {
         Ok(FileRef { module, span })
     }
 
-    /// The file's bytes, lent from the module without a copy. Takes no memory.
+    /// The file's bytes, lent from the module.
     pub fn bytes(&self) -> &[u8]
         ensures { result.now ≡ self.now }
     {
@@ -47,7 +46,7 @@ impl FileRef {
         &bytes[self.span.first..self.span.first + self.span.length]
     }
 
-    /// The same bytes in the same module: only the module is shared. The one refusal is out of memory.
+    /// The same bytes in the same module. `Err` is out of memory.
     pub fn share(&self) -> Result<FileRef, NoMemory>
         ensures { IfOk result (λ r. r ≡ self.now) }
     {
@@ -59,8 +58,8 @@ impl FileRef {
     }
 }
 
-/// The names in a folder of a module that is shared, in the order of its bindings: no name is copied. Seen as the
-/// list of the names; a name that stands twice is there twice.
+/// A folder's names in a shared module, in the order of its bindings, repeated ones too. No name is
+/// copied.
 #[derive(Drop)]
 pub struct FolderRef {
     module: Arc<Module>,
@@ -82,7 +81,6 @@ impl Model for FolderRef {
 }
 
 impl FolderRef {
-    /// The names of a folder of the module.
     pub(crate) fn new(home: &Arc<Module>, folder: usize) -> Result<FolderRef, NoMemory>
         requires { IsSome (bindings_of (arc_value home.now) folder) }
         ensures { IfOk result (λ r. r ≡ names_of (bindings_of (arc_value home.now) folder)) }
@@ -91,14 +89,14 @@ impl FolderRef {
         Ok(FolderRef { module, folder })
     }
 
-    /// How many names the folder has: one for each of its bindings. Takes no memory.
+    /// The number of bindings.
     pub fn count(&self) -> usize
         ensures { result ≡ length self.now }
     {
         self.module.bindings(self.folder).len()
     }
 
-    /// The name of binding `i`, from 0, below `count`, lent from the module without a copy. Takes no memory.
+    /// The name of binding `i`, lent from the module.
     pub fn name(&self, i: usize) -> &[u8]
         requires { i < length self.now }
         ensures { slice_get self.now i ≡ Some result.now }
@@ -106,8 +104,7 @@ impl FolderRef {
         self.module.bindings(self.folder)[i].name.bytes()
     }
 
-    /// Whether no binding before binding `i` has its name; `i` is from 0 and below `count`. Takes no memory, and finds the
-    /// name by halves.
+    /// Whether binding `i` is the first with its name, found by halves.
     pub fn is_first(&self, i: usize) -> bool
         requires { i < length self.now }
         ensures { result ≡ is_first_in self.now i }
@@ -115,7 +112,7 @@ impl FolderRef {
         self.module.is_first(self.folder, i)
     }
 
-    /// The same names in the same module: only the module is shared. The one refusal is out of memory.
+    /// The same names in the same module. `Err` is out of memory.
     pub fn share(&self) -> Result<FolderRef, NoMemory>
         ensures { IfOk result (λ r. r ≡ self.now) }
     {
@@ -127,31 +124,29 @@ impl FolderRef {
     }
 }
 
-/// The answer to a path on what is held. Module ids are those of the location at which the walk ended.
+/// What a path is on what is held. Numbers are ids of the module at which the walk ended.
 #[derive(Drop)]
 pub enum Answer {
-    /// The path is a file: its content.
+    /// The path is a file.
     File(FileRef),
-    /// The path is a folder: its names.
+    /// The path is a folder.
     Folder(FolderRef),
-    /// A folder on the way, held whole, has no binding of the next name, or a name follows a file.
+    /// A whole folder on the way lacks the next name, or a name follows a file.
     NoSuch,
-    /// The walk needs this module, which isn't whole yet, or whose DII isn't held: the one that delivers it, or, where its location
-    /// names none, one that lists it.
+    /// This module isn't whole yet, or its DII isn't held.
     NotYet(u16),
     /// No gateway or no DII was heard yet.
     NoCarousel,
-    /// The walk leaves the carousel: it comes to another one, to a delivery of identification 0, which no DII that describes
-    /// modules has, or to an IOR without a location.
+    /// The walk leads to another carousel, to a delivery of identification 0 (no DII that lists
+    /// modules has it), or to an IOR without a location.
     Elsewhere,
     /// The walk needs this module, which is sent compressed.
     Compressed(u16),
-    /// The object isn't among those that could be read: reading this module stopped at this place, in bytes from
-    /// the module's front.
+    /// Reading this module stopped at this place, in bytes, before the object was found.
     Bad(u16, usize),
-    /// A binding leads to a module that the held DII which delivers it doesn't list, or to no object of this module.
+    /// The DII that delivers this module doesn't list it, or the module lacks the object.
     Dangling(u16),
-    /// A binding leads to an object of this module that is neither a file nor a folder.
+    /// The object in this module is neither a file nor a folder.
     OtherKind(u16),
 }
 
@@ -159,8 +154,7 @@ impl Answer {
     ghost use Rattle.std.specs.Prelude.{OnErr, IsTrue};
     ghost use Rattle.path_resolver.specs.Resolving.{is_shared};
 
-    /// The same answer. A file or a folder shares the module that holds it, and no byte is copied; the one refusal is out of memory, in
-    /// sharing it.
+    /// The same answer. A file or folder shares its module; only there memory can run out.
     pub fn share(&self) -> Result<Answer, NoMemory>
         ensures same { IfOk result (λ shared. shared ≡ self.now) }
         ensures memory { OnErr result (IsTrue (is_shared self.now)) }

@@ -4,9 +4,8 @@ ghost use Rattle.path_resolver.specs.Comparing.{same_answer, same_names};
 
 use crate::answer::{Answer, FolderRef};
 
-/// Whether two answers are the same: they are of one variant with the same numbers, files of the same bytes, or folders of the same
-/// names in the same order. Where the bytes or names lie, in which module and of which shot, makes no difference. It takes no memory;
-/// bytes are compared only where there are as many of them, and so are names. (This project's own rule.)
+/// Whether two answers are the same: one variant, with the same numbers, bytes, or names in the
+/// same order. Which module or shot has them makes no difference. It takes no memory.
 pub fn same(a: &Answer, b: &Answer) -> bool
     ensures equal { IsTrue result ↔ (a.now ≡ b.now) }
     ensures test { result ≡ same_answer a.now b.now }
@@ -14,7 +13,6 @@ pub fn same(a: &Answer, b: &Answer) -> bool
     is_same(a, b)
 }
 
-/// The test by variants.
 fn is_same(a: &Answer, b: &Answer) -> bool
     ensures { result ≡ same_answer a.now b.now }
 {
@@ -33,7 +31,6 @@ fn is_same(a: &Answer, b: &Answer) -> bool
     }
 }
 
-/// The same names, in the same order.
 fn has_same_names(a: &FolderRef, b: &FolderRef) -> bool
     ensures { result ≡ same_names a.now b.now }
 {
@@ -52,7 +49,6 @@ fn has_same_names(a: &FolderRef, b: &FolderRef) -> bool
     true
 }
 
-/// The same bytes.
 fn is_same_name(a: &[u8], b: &[u8]) -> bool
     ensures { result ≡ same_name a.now b.now }
 {

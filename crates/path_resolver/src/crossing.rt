@@ -1,8 +1,7 @@
-//! What threads share is proved here to be Send and Sync.
+//! Proves Send and Sync of what threads share.
 
 use crate::{Answer, FileRef, FolderRef, Shot};
 
-/// Values of this type may be moved to another thread, and lent to several at once.
 fn crosses<T: Send + Sync>() {}
 
 /// Shots and answers cross threads.

@@ -8,51 +8,48 @@ use biop_object::Module;
 use dsi_dii::ModuleLine;
 use std::sync::Arc;
 
-/// A module that a held DII lists, lent by what holds it.
+/// A module that a held DII lists, lent by its holder.
 #[derive(Drop)]
 pub struct Listed<'a> {
-    /// The identification of that DII, 1 to 32,767.
+    /// That DII's identification, 1 to 32,767.
     pub identification: u16,
     /// The module's line in that DII.
     pub line: ModuleLine,
-    /// The module, where all of its blocks are there.
+    /// The module, once it is whole.
     pub module: Option<&'a Arc<Module>>,
 }
 
-/// What paths are answered on: a shot, or the receiver itself. Contracts see what an answer depends on. What is held is lent, so that
-/// no call takes memory. This trait is this project's own.
+/// What paths are answered on: a shot or a receiver. No call takes memory.
 pub trait Holding {
     ghost use Rattle.path_resolver.specs.Resolving.{Held as HeldState};
 
     // What an answer depends on.
     ghost state: { Self → HeldState };
 
-    /// The generation as the receiver counts it, none where no DII is held.
+    /// The held generation's label, if a DII is held.
     fn label(&self) -> Option<u64>
         ensures { result ≡ (state self.now).label };
 
-    /// The gateway of the last DSI that has one, none before.
+    /// The gateway of the last DSI that had one.
     fn gateway(&self) -> Option<&Gateway>
         ensures { option_map (λ g. view_gateway g.now) result ≡ (state self.now).gateway };
 
-    /// Whether a DII of this identification is held, 0 to 32,767.
+    /// Whether a DII of this identification is held.
     fn is_held(&self, identification: u16) -> bool
         ensures { result ≡ list_any (λ i. i == identification) (state self.now).held };
 
-    /// The module of this id, 0 to 65,535, by the first of the held DIIs that lists it, none where no held one does.
+    /// The module by the first held DII that lists it.
     fn listed(&self, id: u16) -> Option<Listed<'_>>
         ensures { option_map view_listed result
             ≡ find (λ h. h.line.id == id) (state self.now).table };
 
-    /// The module of this id, 0 to 65,535, by the held DII of this identification, 0 to 32,767, none where that one isn't held or
-    /// doesn't list it.
+    /// The module by the held DII of this identification.
     fn delivered(&self, identification: u16, id: u16) -> Option<Listed<'_>>
         ensures { option_map view_listed result
             ≡ find (λ h. (h.identification == identification) && (h.line.id == id))
             (state self.now).table };
 }
 
-/// A module of a table, lent.
 fn lent(held: &Held) -> Listed<'_>
     ensures { view_listed result ≡ view_held held.now }
 {
@@ -63,7 +60,6 @@ fn lent(held: &Held) -> Listed<'_>
     }
 }
 
-/// What the table holds of a module.
 fn held_in(table: &[Held], id: u16) -> Option<Listed<'_>>
     ensures { option_map view_listed result
         ≡ find (λ h. h.line.id == id) (map view_held table.now) }
@@ -76,7 +72,6 @@ fn held_in(table: &[Held], id: u16) -> Option<Listed<'_>>
     None
 }
 
-/// What the table holds of a module by the DII of an identification.
 fn delivered_in(table: &[Held], identification: u16, id: u16) -> Option<Listed<'_>>
     ensures { option_map view_listed result
         ≡ find (λ h. (h.identification == identification) && (h.line.id == id))

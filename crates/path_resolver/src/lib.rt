@@ -1,7 +1,9 @@
-//! Shots of a receiver, and the answers to paths on them or on the receiver itself: a whole path is resolved on what is
-//! held at one moment, through the folders of the modules that are there, without copying a byte or a name.
+//! Shots of a receiver, and answers to paths on a shot or on the receiver itself.
 //!
-//! A receiver has heard where the gateway lies, and nothing yet of the module that holds it:
+//! A path is resolved on what is held at one moment. No byte or name is copied. The order in which
+//! faults are looked for, and `same`, are this project's own.
+//!
+//! A receiver has heard where the gateway is, and nothing yet of its module:
 //!
 //! ```
 //! use dsi_dii::ModuleLine;

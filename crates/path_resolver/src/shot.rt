@@ -6,20 +6,20 @@ use std::sync::Arc;
 /// A module as a receiver holds it.
 #[derive(Drop)]
 pub struct Held {
-    /// The identification of the held DII that lists the module, 1 to 32,767.
+    /// The identification of the held DII that lists it, 1 to 32,767.
     pub identification: u16,
     /// The module's line in that DII.
     pub line: ModuleLine,
-    /// The module, where all of its blocks are there.
+    /// The module, once it is whole.
     pub module: Option<Arc<Module>>,
 }
 
 /// The service gateway as the DSI names it.
 #[derive(Drop)]
 pub struct Gateway {
-    /// Where the gateway's object lies; its carousel is the receiver's.
+    /// Its object; the carousel is the receiver's.
     pub location: Location,
-    /// The transactionId of the DII that delivers it, where its IOR says one.
+    /// The transactionId of the DII that delivers it, if its IOR has one.
     pub delivery: Option<u32>,
 }
 
@@ -30,18 +30,17 @@ pub struct Shot {
     pub number: u64,
     /// How many draws were carried before it.
     pub draws: u64,
-    /// How many candidates were fed before it; it stays at the greatest `u64`.
+    /// How many candidates were fed before it. This count and the next two saturate.
     pub mark: u64,
-    /// How many turns dropped everything that was held; it stays at the greatest `u64`.
+    /// How many turns dropped all that was held.
     pub epoch: u64,
-    /// The generation as the receiver counts it, where a DII is held: the first DII's version, and then the sum of
-    /// the distances; it stays at the greatest `u64`.
+    /// The held generation: the first DII's version plus each turn's distance.
     pub label: Option<u64>,
-    /// The identifications of the DIIs that are held, each 1 to 32,767, in the order in which they were heard.
+    /// The identifications of the held DIIs, each 1 to 32,767, as they were heard.
     pub held: Vec<u16>,
-    /// The gateway, where a DSI is held.
+    /// The gateway, if a DSI is held.
     pub gateway: Option<Gateway>,
-    /// The modules that these DIIs list, DII by DII, each in its DII's order. Each line's identification stands in `held`; a shot that
-    /// is made otherwise answers by its table.
+    /// The modules of these DIIs, DII by DII, each in its DII's order. Each identification is in
+    /// `held`; a shot made otherwise answers by its table.
     pub table: Vec<Held>,
 }

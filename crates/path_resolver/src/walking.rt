@@ -20,21 +20,19 @@ use oc_bytes::NoMemory;
 use path_tree::Path;
 use std::sync::Arc;
 
-/// A location on the way, and the transactionId of its delivery, where it is known.
+/// A location on the way. The transactionId is that of the DII that delivers it, if known.
 #[derive(Drop)]
 struct Target<'a> {
     location: &'a Location,
     delivery: Option<u32>,
 }
 
-/// What a name leads to.
 #[derive(Drop)]
 enum Step<'a> {
     On(Target<'a>),
     Ends(Answer),
 }
 
-/// Whether a location lies outside of the carousel.
 fn is_elsewhere(carousel: u32, target: &Target) -> bool
     ensures { result ≡ resolving.is_elsewhere carousel (view_target target.now) }
 {
@@ -45,7 +43,6 @@ fn is_elsewhere(carousel: u32, target: &Target) -> bool
     }
 }
 
-/// The module of a location: where its delivery is known, as that DII lists it, and else as any held DII does.
 fn sought<'a, H: Holding>(held: &'a H, target: &Target) -> Option<Listed<'a>>
     ensures { option_map view_listed result
         ≡ module_of (H.state held.now) (view_target target.now) }
@@ -57,7 +54,6 @@ fn sought<'a, H: Holding>(held: &'a H, target: &Target) -> Option<Listed<'a>>
     }
 }
 
-/// The answer where the module of a location isn't listed.
 fn unlisted<H: Holding>(held: &H, target: &Target) -> Answer
     ensures { result ≡ resolving.unlisted (H.state held.now) (view_target target.now) }
 {
@@ -74,7 +70,6 @@ fn unlisted<H: Holding>(held: &H, target: &Target) -> Answer
     }
 }
 
-/// The module of a location, where it is whole; else the answer.
 fn module_at<'a, H: Holding>(
     held: &'a H,
     carousel: u32,
@@ -102,7 +97,6 @@ fn module_at<'a, H: Holding>(
     }
 }
 
-/// The answer at a location's object, where no name is left.
 fn object_answer(home: &Arc<Module>, location: &Location) -> Result<Answer, NoMemory>
     ensures answer { IfOk result (λ a.
         a ≡ resolving.answer_at_end location.now.module (arc_value home.now)
@@ -123,7 +117,6 @@ fn object_answer(home: &Arc<Module>, location: &Location) -> Result<Answer, NoMe
     }
 }
 
-/// The answer at a location, where no name is left.
 fn end_of<H: Holding>(held: &H, carousel: u32, target: &Target) -> Result<Answer, NoMemory>
     ensures answer { IfOk result (λ a.
         a ≡ walk carousel (H.state held.now) [] (view_target target.now)) }
@@ -136,7 +129,6 @@ fn end_of<H: Holding>(held: &H, carousel: u32, target: &Target) -> Result<Answer
     }
 }
 
-/// Where a binding leads.
 fn along(binding: Option<&Binding>) -> Step<'_>
     ensures { BindingGoes (option_map (λ b. view_binding b.now) binding.entry) result }
 {
@@ -152,7 +144,6 @@ fn along(binding: Option<&Binding>) -> Step<'_>
     }
 }
 
-/// Where a name leads from a location's object.
 #[tactic(auto, using(crate::proofs::Finding::folder_goes))]
 fn next_in<'a>(home: &'a Arc<Module>, location: &Location, name: &[u8]) -> Step<'a>
     ensures { ObjectGoes name.now location.now.module (arc_value home.now)
@@ -168,7 +159,6 @@ fn next_in<'a>(home: &'a Arc<Module>, location: &Location, name: &[u8]) -> Step<
     }
 }
 
-/// Where a name leads from a location.
 fn leads<'a, H: Holding>(held: &'a H, carousel: u32, target: &Target, name: &[u8]) -> Step<'a>
     ensures { StepGoes carousel (H.state held.now) name.now (view_target target.now) result }
 {
@@ -178,7 +168,6 @@ fn leads<'a, H: Holding>(held: &'a H, carousel: u32, target: &Target, name: &[u8
     }
 }
 
-/// The walk from the gateway along all names.
 fn walk_from<H: Holding>(held: &H, gateway: &Gateway, path: &Path) -> Result<Answer, NoMemory>
     ensures answer { IfOk result (λ a.
         a ≡ walk gateway.now.location.carousel (H.state held.now) path.now
@@ -203,7 +192,6 @@ fn walk_from<H: Holding>(held: &H, gateway: &Gateway, path: &Path) -> Result<Ans
     end_of(held, carousel, &target)
 }
 
-/// The module of the last location on the walk along all names, where the walk comes so far.
 fn home_from<H: Holding>(held: &H, gateway: &Gateway, path: &Path) -> Option<u16>
     ensures { result ≡ module_at_end
         (last_target gateway.now.location.carousel (H.state held.now) path.now
@@ -223,8 +211,9 @@ fn home_from<H: Holding>(held: &H, gateway: &Gateway, path: &Path) -> Option<u16
     Some(target.location.module)
 }
 
-/// The module in which the object of a path lies, or from which it is to come: that of the last location on the walk from the gateway
-/// along all names. None, where the walk ends before, and where no gateway or no DII is held. Takes no memory.
+/// The id of the module that has, or will bring, a path's object: the last location of the walk
+/// along all names. `None` if the walk ends before it, or no gateway or DII is held. It takes no
+/// memory.
 pub fn home_of(shot: &Shot, path: &Path) -> Option<u16>
     ensures { result ≡ places.home_of (held_of shot.now) path.now }
 {
@@ -234,18 +223,21 @@ pub fn home_of(shot: &Shot, path: &Path) -> Option<u16>
     }
 }
 
-/// The answer to the whole path on one shot: the walk from the gateway along all names. A file or a folder shares the
-/// module that holds it; the one refusal is out of memory, in sharing it, so that it comes only where the answer is a file
-/// or a folder.
+/// The answer to the whole path on one shot (ETSI TR 101 202, 4.7.4 and 4.7.5).
 ///
-/// Without a gateway or a label it is `NoCarousel`. At each location, in this order: `Elsewhere` where its carousel
-/// isn't the gateway's, or its delivery is known and of identification 0; where its delivery is known, `NotYet` where
-/// no DII of that identification is held, and `Dangling` where that DII doesn't list the module; where it isn't known,
-/// `NotYet` where no held DII lists the module; `Compressed`; `NotYet` where the module isn't whole; `Bad`, `Dangling` or
-/// `OtherKind` where the module has no file or folder of its key; a file is `File` where no name is left, and else
-/// `NoSuch`; a folder is `Folder` where no name is left, and else the first binding of the next name leads on:
-/// `NoSuch` where there is none, `Elsewhere` where its IOR has no location. (ETSI TR 101 202, clauses 4.7.4 and
-/// 4.7.5; the order is this project's own rule.)
+/// It walks from the gateway along all names. A file or folder shares its module; only there memory
+/// can run out. Without a gateway or a label the answer is `NoCarousel`. At each location the first
+/// of these that applies is the answer:
+///
+/// - `Elsewhere`: another carousel, or a known delivery of identification 0.
+/// - `NotYet`: no DII of the known delivery is held; `Dangling`: that DII doesn't list the module.
+/// - `NotYet`: the delivery isn't known, and no held DII lists the module.
+/// - `Compressed`; `NotYet` if the module isn't whole.
+/// - `Bad`, `Dangling` or `OtherKind`: the module has no file or folder of the key.
+/// - `File` if no name is left, else `NoSuch`.
+/// - `Folder` if no name is left. Else the first binding of the next name leads on: `NoSuch` if
+///   there
+/// is none, `Elsewhere` if its IOR has no location.
 pub fn resolve(shot: &Shot, path: &Path) -> Result<Answer, NoMemory>
     ensures answer { IfOk result (λ a. a ≡ answers_of shot.now path.now) }
     ensures memory { OnErr result (IsTrue (is_shared (answers_of shot.now path.now))) }
@@ -253,9 +245,8 @@ pub fn resolve(shot: &Shot, path: &Path) -> Result<Answer, NoMemory>
     answer_on(shot, path)
 }
 
-/// The answer to the whole path on what is held, by the rules of `resolve`: on a shot, or on the receiver itself, of which no shot has to
-/// be made then. Each step of the walk looks up one module. A file or a folder shares the module that holds it; the one refusal is out
-/// of memory, in sharing it, so that it comes only where the answer is a file or a folder.
+/// The answer on what is held, by the rules of `resolve`, without a shot. Each step looks up one
+/// module.
 pub fn answer_on<H: Holding>(held: &H, path: &Path) -> Result<Answer, NoMemory>
     ensures answer { IfOk result (λ a. a ≡ answer_of (H.state held.now) path.now) }
     ensures memory { OnErr result (IsTrue (is_shared (answer_of (H.state held.now) path.now))) }
