@@ -1,4 +1,3 @@
-//! Which of a tree's entries edits name.
 ghost use Rattle.std.specs.Prelude.{◌≡◌, ◌≢◌, [], Ok, map, IfOk, OnErr};
 ghost use Rattle.oc_bytes.specs.Outcome.{MakesList};
 ghost use Rattle.path_tree.specs.Edits.{apply_all, is_edited, AreAsBefore};
@@ -9,9 +8,10 @@ use crate::tree::{Edit, Tree};
 use oc_bytes::NoMemory;
 use std::alloc::Global;
 
-/// Of each of a tree's entries, in the order of `Tree::entries`, whether one of the edits names its path. Where the tree is
-/// what `apply` gives for these edits, a file that none of them names has the bytes that stood at its path before. The
-/// one refusal is out of memory, and comes only where the tree has entries.
+/// For each entry, in the order of `Tree::entries`, whether one of the edits names its path. `Err`
+/// is out of memory.
+///
+/// Where `apply` made the tree by these edits, any other file has the bytes it had before.
 pub fn edited_entries(alloc: Global, tree: &Tree, edits: &[Edit]) -> Result<Vec<bool>, NoMemory>
     ensures edited { MakesList result (map (λ e. is_edited edits.now e.0) tree.now) }
     ensures as_before { IfOk result (λ v.

@@ -1,5 +1,5 @@
-//! Searches among a tree's entries, which stand in the order of paths: what lies below a path stands right
-//! after it, and a file that it leads through right before it.
+//! Searches in entries in the order of paths. What is below a path follows it directly; a file that
+//! it leads through comes directly before it. `place` is the path's place among the entries.
 ghost use Rattle.std.specs.Prelude.{◌≡◌, ◌≢◌, ◌≤◌, ◌||◌, ◌==◌, [], length, OnOk, OnErr};
 ghost use Rattle.std.specs.List.{dedup};
 ghost use Rattle.std.specs.Option.{option_map};
@@ -13,7 +13,6 @@ use crate::path::{Name, Path, same_bytes};
 use oc_bytes::{Blob, NoMemory};
 use std::alloc::Global;
 
-/// How many entries stand before a path, found by halving.
 pub(crate) fn place_of(entries: &[(Path, Entry)], path: &Path) -> usize
     requires { IsTree entries.now }
     ensures place { result ≡ place_in entries.now path.now }
@@ -22,7 +21,7 @@ pub(crate) fn place_of(entries: &[(Path, Entry)], path: &Path) -> usize
     entries.partition_point(|entry| entry.0.compare(path).is_lt())
 }
 
-/// The first of these entries, where it stands at the path.
+/// The first of these entries, if it is at the path.
 pub(crate) fn first_at<'a>(entries: &'a [(Path, Entry)], path: &Path) -> Option<&'a Entry>
     ensures { option_map (λ entry. entry.now) result ≡ first_at entries.now path.now }
 {
@@ -61,7 +60,7 @@ pub(crate) fn last_is_above(entries: &[(Path, Entry)], path: &Path) -> bool
     }
 }
 
-/// Whether something lies below the path; `place` is where it stands among the entries.
+/// Whether something is below the path.
 pub(crate) fn leads_on(entries: &[(Path, Entry)], place: usize, path: &Path) -> bool
     requires tree { IsTree entries.now }
     requires place { place ≡ place_in entries.now path.now }
@@ -71,7 +70,7 @@ pub(crate) fn leads_on(entries: &[(Path, Entry)], place: usize, path: &Path) -> 
     first_is_below(beyond(&entries[place..], path), path)
 }
 
-/// The bytes of the file at the path, if one stands there; `place` is where it stands among the entries.
+/// The bytes of the file at the path.
 pub(crate) fn content_at<'a>(
     entries: &'a [(Path, Entry)],
     place: usize,
@@ -88,7 +87,6 @@ pub(crate) fn content_at<'a>(
     }
 }
 
-/// Whether a folder is kept at the path; `place` is where it stands among the entries.
 pub(crate) fn is_kept(entries: &[(Path, Entry)], place: usize, path: &Path) -> bool
     requires tree { IsTree entries.now }
     requires place { place ≡ place_in entries.now path.now }
@@ -98,7 +96,7 @@ pub(crate) fn is_kept(entries: &[(Path, Entry)], place: usize, path: &Path) -> b
     matches!(first_at(&entries[place..], path), Some(Entry::Folder))
 }
 
-/// Whether the path is the root, a kept folder, or has something below it; `place` is where it stands among the entries.
+/// Whether the path is the root, a kept folder, or above another path.
 pub(crate) fn is_folder(entries: &[(Path, Entry)], place: usize, path: &Path) -> bool
     requires tree { IsTree entries.now }
     requires place { place ≡ place_in entries.now path.now }
@@ -109,7 +107,7 @@ pub(crate) fn is_folder(entries: &[(Path, Entry)], place: usize, path: &Path) ->
     path.len() == 0 || is_kept(entries, place, path) || leads_on(entries, place, path)
 }
 
-/// How many of the first entries lie below the path.
+/// How many of the first entries are below the path.
 fn count_below(entries: &[(Path, Entry)], path: &Path) -> usize
     ensures count { result ≡ count_below entries.now path.now }
     ensures within { result ≤ length entries.now }
@@ -131,7 +129,7 @@ fn last_name_is(names: &[Name], name: &[u8]) -> bool
     }
 }
 
-/// Puts a name after the listed ones, unless it is the last of them.
+/// Adds a name, unless it is the last already.
 fn list_name(names: &mut Vec<Name>, name: &Name) -> Result<(), NoMemory>
     ensures { OnOk result (names.new.items ≡ with_name names.old.items name.now) }
 {
@@ -141,7 +139,7 @@ fn list_name(names: &mut Vec<Name>, name: &Name) -> Result<(), NoMemory>
     Ok(())
 }
 
-/// The next names below the path of entries that all lie below it, each once.
+/// The next names, each once, where all entries are below the path.
 fn next_names(alloc: Global, entries: &[(Path, Entry)], path: &Path) -> Result<Vec<Name>, NoMemory>
     ensures names { MakesList result (dedup same_name (next_names entries.now path.now)) }
     ensures no_memory { OnErr result (next_names entries.now path.now ≢ []) }
@@ -155,7 +153,7 @@ fn next_names(alloc: Global, entries: &[(Path, Entry)], path: &Path) -> Result<V
     Ok(names)
 }
 
-/// The next names below a path, each once, in byte order; `place` is where it stands among the entries.
+/// The next names below a path, each once, in byte order.
 pub(crate) fn names_below(
     alloc: Global,
     entries: &[(Path, Entry)],

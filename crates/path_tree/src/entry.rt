@@ -8,7 +8,7 @@ use oc_bytes::{Blob, NoMemory};
 pub enum Entry {
     /// A file, and its bytes.
     File(Blob),
-    /// A folder that is kept, whether or not something stands in it.
+    /// A kept folder, empty or not.
     Folder,
 }
 
@@ -20,7 +20,7 @@ impl Entry {
         matches!(self, Entry::File(_))
     }
 
-    /// The same entry again; a file's bytes are not copied. Memory is asked for only where this is a file.
+    /// The same entry; a file's bytes aren't copied. `Err` is out of memory.
     pub fn share(&self) -> Result<Entry, NoMemory>
         ensures entry { IfOk result (λ entry. entry ≡ self.now) }
         ensures no_memory { OnErr result (is_a_file self.now ≡ true) }

@@ -1,26 +1,26 @@
-//! What holds of all trees and edits, each law as the contract of a function that does nothing.
+//! Laws of all trees and edits, each the contract of a function that does nothing.
 ghost use Rattle.path_tree.specs.Edits.{OthersStay};
 ghost use Rattle.path_tree.specs.Files.{FilesStayTheSame, LookupsStayTheSame};
 ghost use Rattle.path_tree.specs.Laws.{NestingsAreTheirEntries, TreesAreNestings};
 
-/// Over every list of edits that aren't refused: a path that none of them names maps to the same after all of them as
-/// before, or to nothing both times.
+/// A path that no edit of a list names maps to the same, or to nothing, before and after all of
+/// them.
 pub fn others_stay()
     ensures { OthersStay }
 {}
 
-/// Over every list of puts and removals, on a tree of files alone: it gives the tree, or the place and the fault, that it
-/// gave when trees had files alone.
+/// On a tree of files alone, puts and removals give the tree or fault that they would give without
+/// kept folders.
 pub fn files_stay_the_same()
     ensures { FilesStayTheSame }
 {}
 
-/// Over every tree of files alone: a look-up answers what it answered when trees had files alone.
+/// On a tree of files alone, a look-up answers as it would without kept folders.
 pub fn lookups_stay_the_same()
     ensures { LookupsStayTheSame }
 {}
 
-/// Over every tree: as folders in folders it has the same entries, and a look-up walks down it.
+/// As folders in folders a tree has the same entries, and a look-up walks down it.
 pub fn trees_are_nestings()
     ensures { TreesAreNestings }
 {}

@@ -1,4 +1,5 @@
-//! Paths and their texts, trees of files and kept folders, and edits of trees.
+//! Paths and their texts, trees of files and kept folders, and edits of trees. The texts and limits
+//! are this project's own.
 //!
 //! ```
 //! use oc_bytes::Blob;

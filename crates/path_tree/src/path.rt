@@ -11,8 +11,7 @@ use std::sync::Arc;
 use std::{fmt, slice};
 use thiserror::Error;
 
-/// A name as it stands in a folder's listing: 0 to 255 bytes of any value. The names of a `Path` are
-/// narrower.
+/// A name in a folder's listing: 0 to 255 bytes of any value. Those of a `Path` are narrower.
 #[derive(Debug, Drop)]
 pub struct Name {
     bytes: Vec<u8>,
@@ -29,7 +28,7 @@ impl Model for Name {
 }
 
 impl Name {
-    /// The name of these bytes, of which there are at most 255.
+    /// The name of these bytes, at most 255.
     pub fn new(bytes: Vec<u8>) -> Name
         requires { length bytes.items ≤ 255 }
         ensures { result ≡ bytes.items }
@@ -37,14 +36,14 @@ impl Name {
         Name { bytes }
     }
 
-    /// The name's bytes, 0 to 255 of them.
+    /// The name's bytes, 0 to 255.
     pub fn bytes(&self) -> &[u8]
         ensures { result.now ≡ self.now }
     {
         &self.bytes
     }
 
-    /// A name of the same bytes.
+    /// A name of the same bytes. `Err` is out of memory.
     pub fn copy(&self) -> Result<Name, NoMemory>
         ensures { IfOk result (λ name. name ≡ self.now) }
     {
@@ -54,7 +53,6 @@ impl Name {
     }
 }
 
-/// How a list of names stands to another: the first that differ decide, and else the one of fewer names stands first.
 fn compare_names(own: &[Name], others: &[Name]) -> Ordering
     ensures { result ≡ path_cmp own.now others.now }
 {
@@ -76,9 +74,9 @@ pub(crate) fn same_bytes(name: &[u8], other: &[u8]) -> bool
 /// Why a text is no path.
 #[derive(Debug, Drop, Error)]
 pub enum PathFault {
-    /// The text doesn't begin with `/` (the place is 0), or one of its first sixteen names is empty, has
-    /// more than 254 bytes, has a `%` without two hexadecimal digits after it, or holds a byte zero or
-    /// `/` once its escapes are undone. The number is the place of the name's first byte in the text.
+    /// The text doesn't begin with `/` (the number is 0), or one of its first 16 names isn't
+    /// allowed: it is empty, has more than 254 bytes, has a `%` without two hexadecimal digits, or
+    /// holds a byte zero or `/` once unescaped. The number is the place of the name's first byte.
     #[error("no path: the name at byte {0} is not allowed")]
     BadName(usize),
     /// The text has a seventeenth name.
@@ -111,8 +109,8 @@ impl<T: Drop> From<AllocFailed<T>> for PathFault {
     }
 }
 
-/// A path below the root of a carousel: 0 to [`MOST_NAMES`] names, each of 1 to 254 bytes without zero and `/`. The
-/// path of no names is the root. Two paths that are shared hold the same names in memory once.
+/// A path below the root: 0 to [`MOST_NAMES`] names, each of 1 to 254 bytes without zero and `/`.
+/// The root has no names. Shared paths hold their names in memory once.
 #[derive(Debug, Drop)]
 pub struct Path {
     names: Arc<Vec<Name>>,
@@ -135,10 +133,10 @@ impl Path {
     ghost use Rattle.path_tree.specs.Texts.{path_of, text_of, text_cause, with_below};
     ghost use Rattle.std.specs.String.{string_bytes};
 
-    /// Reads a path's text (this project's own rule): `/` alone is the root, and else `/` stands before
-    /// each name, in which `%` and two hexadecimal digits of either case stand for a byte and every other
-    /// byte for itself. The names are taken from the left, and the first fault counts. Memory is asked for only
-    /// where the text is a path.
+    /// Reads a path's text: `/` is the root, else `/` comes before each name.
+    ///
+    /// In a name `%` and two hexadecimal digits of either case are a byte, and any other byte is
+    /// itself. The first fault from the left counts, before memory.
     pub fn parse(alloc: Global, text: &[u8]) -> Result<Path, PathFault>
         ensures reads { Gives (λ p. p) text_cause result (path_of text.now) }
         ensures no_memory { IsErrOf result PathFault.NoMemory → IsOk (path_of text.now) }
@@ -169,14 +167,14 @@ impl Path {
         self.names[i].bytes()
     }
 
-    /// The names in turn, from the root's side.
+    /// The names, from the root's side.
     pub fn iter(&self) -> slice::Iter<'_, Name>
         ensures { iter_rest result ≡ self.now }
     {
         self.names.iter()
     }
 
-    /// The same path again, whose names are not copied.
+    /// The same path; no name is copied. `Err` is out of memory.
     pub fn share(&self) -> Result<Path, NoMemory>
         ensures { IfOk result (λ p. p ≡ self.now) }
     {
@@ -185,7 +183,7 @@ impl Path {
         })
     }
 
-    /// The path of the first `names` names: this path itself, or a folder above it.
+    /// The path of the first `names` names. `Err` is out of memory.
     pub fn above(&self, names: usize) -> Result<Path, NoMemory>
         requires { names ≤ length self.now }
         ensures { IfOk result (λ p. p ≡ take names self.now) }
@@ -200,9 +198,8 @@ impl Path {
         })
     }
 
-    /// The path of one name more, or none where the name is no name of a path (it is empty, has more than 254
-    /// bytes, or holds a byte zero or `/`) or where this path has sixteen names already. The one refusal is
-    /// out of memory, and comes only where there is a path to give.
+    /// The path of one name more. `None` if a path can't have the name (empty, over 254 bytes, with
+    /// a byte zero or `/`) or has sixteen already. `Err` is out of memory.
     pub fn below(&self, name: &[u8]) -> Result<Option<Path>, NoMemory>
         ensures below { IfOk result (λ below. below ≡ with_below self.now name.now) }
         ensures no_memory { OnErr result (IsSome (with_below self.now name.now)) }
@@ -221,16 +218,15 @@ impl Path {
         }))
     }
 
-    /// How this path stands to another in the order of paths: the first names that differ decide, by
-    /// their bytes, and else the path of fewer names stands first.
+    /// Compares in the order of paths: the first names that differ decide, by bytes, else the fewer
+    /// names come first.
     pub fn compare(&self, other: &Path) -> Ordering
         ensures { result ≡ path_cmp self.now other.now }
     {
         compare_names(&self.names, &other.names)
     }
 
-    /// How the path of this one's first `own` names stands to that of the other's first `others` names, in the order in
-    /// which `compare` has them. Neither path is copied.
+    /// `compare`, for the first `own` names of this path and the first `others` of the other.
     pub fn compare_first(&self, own: usize, other: &Path, others: usize) -> Ordering
         requires own { own ≤ length self.now }
         requires others { others ≤ length other.now }
@@ -239,7 +235,7 @@ impl Path {
         compare_names(&self.names[..own], &other.names[..others])
     }
 
-    /// With how many names this path and another begin alike, from 0 to the number of names of the shorter of both.
+    /// How many first names both paths share.
     pub fn shared_names(&self, other: &Path) -> usize
         ensures shared { result ≡ shared self.now other.now }
         ensures within { result ≤ length self.now }
@@ -262,7 +258,7 @@ impl Path {
         self.compare(other).is_eq()
     }
 
-    /// Whether another path lies below this one: it has more names, of which the first are this path's.
+    /// Whether another path is below this one.
     pub fn is_above(&self, other: &Path) -> bool
         ensures { result ≡ is_below self.now other.now }
     {
@@ -278,7 +274,7 @@ impl Path {
         true
     }
 
-    /// The name that leads from this path on to another below it.
+    /// The name that leads from this path to another below it.
     pub fn next_below<'a>(&self, other: &'a Path) -> Option<&'a Name>
         ensures { option_map (λ name. name.now) result ≡ next_name self.now other.now }
     {
@@ -289,8 +285,8 @@ impl Path {
         }
     }
 
-    /// The path's text, which `parse` reads as this path: bytes 0x21 to 0x7E other than `%` and `/` stand
-    /// as themselves, and all others as `%` with two upper case hexadecimal digits.
+    /// The path's text, which `parse` reads back. Bytes 0x21 to 0x7E except `%` and `/` are
+    /// themselves, others `%` and two upper case hexadecimal digits. `Err` is out of memory.
     pub fn print(&self) -> Result<String, NoMemory>
         ensures text { Spells result (text_of self.now) }
         ensures parses { IfOk result (λ text. path_of (string_bytes text) ≡ Ok self.now) }

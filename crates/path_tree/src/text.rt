@@ -16,7 +16,7 @@ use std::fmt;
 /// The most names of a path.
 pub const MOST_NAMES: usize = 16;
 
-/// The value of a hexadecimal digit of either case.
+/// The value of a digit of either case.
 fn hex_digit(byte: u8) -> Option<u8>
     ensures value { result ≡ digit byte }
     ensures below { IfSome result (λ value. value < 16) }
@@ -29,7 +29,6 @@ fn hex_digit(byte: u8) -> Option<u8>
     }
 }
 
-/// The byte that two hexadecimal digits write.
 fn hex_byte(high: u8, low: u8) -> Option<u8>
     ensures { result ≡ byte_of_digits (digit high) (digit low) }
 {
@@ -39,7 +38,7 @@ fn hex_byte(high: u8, low: u8) -> Option<u8>
     }
 }
 
-/// The first byte that a name's text stands for, and the text after it.
+/// The first byte that a name's text means, and the text after it.
 fn first_byte(text: &[u8]) -> Option<(u8, &[u8])>
     requires { 0 < length text.now }
     ensures { Undoes text.now (option_map (λ p. (p.0, p.1.now)) result) }
@@ -55,7 +54,7 @@ fn first_byte(text: &[u8]) -> Option<(u8, &[u8])>
     }
 }
 
-/// The bytes that a name's text stands for, or none where a `%` lacks its two digits.
+/// The bytes that a name's text means; none if a `%` lacks its digits.
 fn unescaped(alloc: Global, text: &[u8]) -> Result<Option<Vec<u8>>, NoMemory>
     ensures bytes { IfOk result (λ bytes. option_map (λ v. v.items) bytes ≡ undo_escapes text.now) }
     ensures in_byte { IfOk result (λ bytes. IfSome bytes (λ v. IsBytes v.items)) }
@@ -78,7 +77,6 @@ fn holds_zero_or_slash(bytes: &[u8]) -> bool
     bytes.iter().any(|byte| *byte == 0 || *byte == b'/')
 }
 
-/// Whether these bytes may be a name of a path.
 pub(crate) fn is_path_name(bytes: &[u8]) -> bool
     ensures value { result ≡ is_name bytes.now }
     ensures name { result ≡ true → IsName bytes.now }
@@ -92,7 +90,7 @@ fn is_zero_or_slash(byte: u8) -> bool
     byte == 0 || byte == b'/'
 }
 
-/// Whether a text stands for a name of a path. It takes no memory.
+/// As `name_of`, without memory.
 fn is_name_text(text: &[u8]) -> bool
     ensures { result ≡ is_some (name_of text.now) }
 {
@@ -110,7 +108,7 @@ fn is_name_text(text: &[u8]) -> bool
     count >= 1 && count <= 254 && clean
 }
 
-/// The name that a text stands for; `place` is where the text begins in the whole.
+/// The name that a text means, which begins at `place` in the whole.
 fn read_name(alloc: Global, text: &[u8], place: usize) -> Result<Name, PathFault>
     ensures { IsNameAt text.now place result }
 {
@@ -126,7 +124,7 @@ fn first_slash(text: &[u8]) -> Option<usize>
     text.iter().position(|byte| *byte == b'/')
 }
 
-/// The text up to the first `/`, and what follows that `/` where there is one.
+/// The text up to the first `/`, and the text after that `/`.
 fn first_piece(text: &[u8]) -> (&[u8], Option<&[u8]>)
     ensures { Cuts text.now result.0.now (option_map (λ rest. rest.now) result.1) }
 {
@@ -136,7 +134,7 @@ fn first_piece(text: &[u8]) -> (&[u8], Option<&[u8]>)
     }
 }
 
-/// Whether the text after a first `/` stands for names, or its first fault from the left. It takes no memory.
+/// The first fault from the left, without memory.
 fn check_names(text: &[u8]) -> Result<(), PathFault>
     requires { 0 < length text.now }
     ensures read { Gives (λ _. tt) text_cause result (verdict_of (names_after (drop 1 text.now))) }
@@ -156,8 +154,8 @@ fn check_names(text: &[u8]) -> Result<(), PathFault>
     Err(PathFault::TooDeep)
 }
 
-/// The names of a text that begins with a `/` and has more than that. Memory is asked for only once the whole
-/// text has been checked, so that a fault is never hidden by a lack of it.
+/// The names of a text that begins with `/` and isn't `/`. It checks all first, so that lack of
+/// memory hides no fault.
 pub(crate) fn read_names(alloc: Global, text: &[u8]) -> Result<Vec<Name>, PathFault>
     requires { 0 < length text.now }
     ensures read { Gives (λ names. names.items) text_cause result (names_after (drop 1 text.now)) }
@@ -180,7 +178,6 @@ pub(crate) fn read_names(alloc: Global, text: &[u8]) -> Result<Vec<Name>, PathFa
     Err(PathFault::TooDeep)
 }
 
-/// The upper case digit of a number below 16.
 fn hex_char(value: u8) -> char
     requires { value < 16 }
     ensures { result ≡ upper_digit value }
@@ -193,7 +190,7 @@ fn hex_char(value: u8) -> char
     char::from(digit)
 }
 
-/// Whether a byte stands as itself in a text.
+/// Whether a byte is itself in a text.
 fn is_plain(byte: u8) -> bool
     ensures { result ≡ (nat_le 33 byte && nat_le byte 126 && not (byte == 37) && not (byte == 47)) }
 {
@@ -211,7 +208,7 @@ fn push_byte(text: &mut String, byte: u8) -> Result<(), NoMemory>
     text.push(hex_char(byte % 16))
 }
 
-/// A name's text as it stands on a line of its own: that of a path without the `/` in front, for any bytes.
+/// The text of a name of any bytes: that of a path, without the `/`. `Err` is out of memory.
 pub fn print_name(alloc: Global, name: &[u8]) -> Result<String, NoMemory>
     ensures { Spells result (flat_map printed_byte name.now) }
 {
@@ -222,7 +219,6 @@ pub fn print_name(alloc: Global, name: &[u8]) -> Result<String, NoMemory>
     Ok(text)
 }
 
-/// Writes `/` and a name's text.
 pub(crate) fn push_name(text: &mut String, name: &[u8]) -> Result<(), NoMemory>
     ensures { AddsText result text.old text.new (printed_name name.now) }
 {
@@ -244,7 +240,6 @@ fn write_byte<W: fmt::Write>(f: &mut fmt::Formatter<W>, byte: u8) -> fmt::Result
     f.write_char(hex_char(byte % 16))
 }
 
-/// Shows `/` and a name's text.
 pub(crate) fn write_name<W: fmt::Write>(f: &mut fmt::Formatter<W>, name: &[u8]) -> fmt::Result
     ensures { DisplaysOnOk W.write_str_gives f.old result (Some (printed_name name.now)) f.new }
 {

@@ -18,25 +18,24 @@ use std::alloc::{AllocError, AllocFailed, Global};
 use std::marker::Model;
 use thiserror::Error;
 
-/// The most bytes of a file: the greatest content of a BIOP file message that this project writes.
+/// The most bytes of a file.
 pub const MOST_CONTENT: usize = 16_777_216;
 
 /// A change of a tree.
 #[derive(Drop)]
 pub enum Edit {
-    /// The file at the path has these bytes from now on; it need not stand there before.
+    /// The file at the path has these bytes from now on, whether it was there or not.
     Put(Path, Blob),
-    /// The file at the path is taken out, and with it each folder above it that is then empty and isn't kept.
+    /// Removes the file, and each folder above it that is then empty and not kept.
     Remove(Path),
-    /// The folder at the path is kept from now on, whether or not something stands in it; it need not stand there before.
+    /// The folder is kept from now on, whether it was there or not.
     MakeFolder(Path),
-    /// The kept folder at the path, in which nothing stands, is taken out, and with it each folder above it that is then
-    /// empty and isn't kept.
+    /// Removes the kept, empty folder, and each one above it that is then empty and not kept.
     RemoveFolder(Path),
 }
 
 impl Edit {
-    /// The path of the file or folder that the edit is about.
+    /// The path of the edit's file or folder.
     pub fn path(&self) -> &Path
         ensures { result.now ≡ path_in self.now }
     {
@@ -48,7 +47,7 @@ impl Edit {
         }
     }
 
-    /// The same edit again; a file's bytes are not copied.
+    /// The same edit; a file's bytes aren't copied. `Err` is out of memory.
     pub fn share(&self) -> Result<Edit, NoMemory>
         ensures { IfOk result (λ edit. edit ≡ self.now) }
     {
@@ -64,26 +63,26 @@ impl Edit {
 /// Why an edit is refused.
 #[derive(Clone, Copy, Debug, PartialEq, Eq, Error)]
 pub enum EditFault {
-    /// No file stands at the path that is to be removed.
+    /// No file is at the path to be removed.
     #[error("no file stands at the path")]
     NoSuchFile,
-    /// The path that a file is to be put at is the root, a kept folder, or a folder in which something stands; or the path
-    /// that a folder is to be made at is the root, or a folder that is kept already.
+    /// A file is to be put at the root, a kept folder or a folder that isn't empty; or a folder is
+    /// to be made at the root or a kept folder.
     #[error("a folder stands at the path")]
     FolderThere,
-    /// The path that a file is to be put at, or a folder is to be made at, leads through a file.
+    /// The path of a put or of a made folder leads through a file.
     #[error("the path leads through a file")]
     ThroughFile,
-    /// The file that is to be put has more than [`MOST_CONTENT`] bytes.
+    /// The file has more than [`MOST_CONTENT`] bytes.
     #[error("the file has more than 16,777,216 bytes")]
     FileTooLarge,
-    /// A file stands at the path that a folder is to be made at.
+    /// A folder is to be made where a file is.
     #[error("a file stands at the path")]
     FileThere,
-    /// No folder is kept at the path that is to be removed.
+    /// No folder is kept at the path to be removed.
     #[error("no folder is kept at the path")]
     NoSuchFolder,
-    /// Something stands in the folder that is to be removed.
+    /// The folder to be removed isn't empty.
     #[error("the folder isn't empty")]
     NotEmpty,
 }
@@ -91,7 +90,7 @@ pub enum EditFault {
 /// Why a list of edits is refused.
 #[derive(Debug, Drop, Error)]
 pub enum ApplyFault {
-    /// The first edit that is refused: its place in the list, counted from 0, and its fault.
+    /// The first refused edit: its place from 0, and its fault.
     #[error("edit {0}: {1}")]
     Edit(usize, EditFault),
     /// There is no memory.
@@ -110,12 +109,12 @@ impl From<AllocError> for ApplyFault {
     }
 }
 
-/// What stands at a path.
+/// What is at a path.
 #[derive(Drop)]
 pub enum Lookup {
     /// A file, and its bytes.
     File(Blob),
-    /// A folder, and the names in it, each once, in byte order. The root is always a folder.
+    /// A folder, and its names, each once, in byte order. The root is always one.
     Folder(Vec<Name>),
     /// Nothing.
     NoSuch,
@@ -144,7 +143,7 @@ impl Edits {
         Edits { list }
     }
 
-    /// The edits, the first of them first.
+    /// The edits in order.
     pub fn list(&self) -> &[Edit]
         ensures { result.now ≡ self.now }
     {
@@ -152,9 +151,8 @@ impl Edits {
     }
 }
 
-/// A tree: a finite map from paths below the root to files, of at most [`MOST_CONTENT`] bytes each, and kept folders. No
-/// file stands at a path that leads on to another path of the tree. A folder is there because something stands in it, or
-/// because it is kept.
+/// A tree: a map from paths below the root to files of at most [`MOST_CONTENT`] bytes, and to kept
+/// folders. No file's path leads on to another path. Every folder is kept or not empty.
 #[derive(Drop)]
 pub struct Tree {
     entries: Vec<(Path, Entry)>,
@@ -174,7 +172,7 @@ impl Tree {
     ghost use Rattle.path_tree.specs.Edits.{view_lookup};
     ghost use Rattle.path_tree.specs.Trees.{content_at, entry_at};
 
-    /// The tree in which nothing stands.
+    /// The empty tree.
     pub fn empty(alloc: Global) -> Tree
         ensures { result ≡ [] }
     {
@@ -183,8 +181,8 @@ impl Tree {
         }
     }
 
-    /// The files and the kept folders with their paths, in the order of paths. Paths are ordered as lists of names, names
-    /// by their bytes.
+    /// The files and kept folders, in the order of paths: as lists of names, which compare by
+    /// bytes.
     pub fn entries(&self) -> &[(Path, Entry)]
         ensures entries { result.now ≡ self.now }
         ensures tree { IsTree self.now }
@@ -192,7 +190,7 @@ impl Tree {
         &self.entries
     }
 
-    /// The number of files. It is counted, in a time that grows with the number of entries.
+    /// The number of files. It takes a time that grows with the number of entries.
     pub fn len(&self) -> usize
         ensures files { result ≡ length (files_in self.now) }
         ensures tree { IsTree self.now }
@@ -200,8 +198,8 @@ impl Tree {
         count_files(&self.entries)
     }
 
-    /// File number `i` in the order of paths, counted from 0: its path and its bytes. It is sought from the first entry on;
-    /// who wants all files goes through `entries`.
+    /// File number `i` in the order of paths, from 0. It searches from the first entry; for all
+    /// files, use `entries`.
     pub fn file(&self, i: usize) -> (&Path, &Blob)
         requires { i < length (files_in self.now) }
         ensures { slice_get (files_in self.now) i ≡ Some (result.0.now, result.1.now) }
@@ -209,7 +207,7 @@ impl Tree {
         file_at(&self.entries, i).unwrap()
     }
 
-    /// The number of kept folders. It is counted, as by `len`.
+    /// The number of kept folders, counted as by `len`.
     pub fn made_len(&self) -> usize
         ensures folders { result ≡ length (made_in self.now) }
         ensures tree { IsTree self.now }
@@ -217,7 +215,7 @@ impl Tree {
         count_made(&self.entries)
     }
 
-    /// The path of kept folder number `i` in the order of paths, counted from 0. It is sought, as by `file`.
+    /// The path of kept folder number `i` in the order of paths, from 0, sought as by `file`.
     pub fn made(&self, i: usize) -> &Path
         requires { i < length (made_in self.now) }
         ensures { slice_get (made_in self.now) i ≡ Some result.now }
@@ -225,7 +223,7 @@ impl Tree {
         made_at(&self.entries, i).unwrap()
     }
 
-    /// The number of the entry at a path, as `entries` counts them from 0, or none where the path maps to nothing.
+    /// The place of a path's entry in `entries`, from 0.
     pub fn find(&self, path: &Path) -> Option<usize>
         ensures found { IfSome result (λ i.
             option_map (λ e. e.0) (slice_get self.now i) ≡ Some path.now) }
@@ -239,15 +237,14 @@ impl Tree {
         }
     }
 
-    /// The bytes of the file at a path, or none where no file stands there.
+    /// The bytes of the file at a path.
     pub fn content(&self, path: &Path) -> Option<&Blob>
         ensures { option_map (λ content. content.now) result ≡ content_at self.now path.now }
     {
         content_at(&self.entries, place_of(&self.entries, path), path)
     }
 
-    /// What stands at a path. A file's bytes are shared, and not copied. Out of memory is the one refusal, and
-    /// comes only where a file or a folder that isn't empty stands there.
+    /// What is at a path. A file's bytes aren't copied. `Err` is out of memory.
     pub fn lookup(&self, path: &Path) -> Result<Lookup, NoMemory>
         ensures node { IfOk result (λ found. view_lookup found ≡ node_at self.now path.now) }
         ensures listing { IfOk result (λ found.
@@ -292,7 +289,6 @@ fn count_made(entries: &[(Path, Entry)]) -> usize
     count
 }
 
-/// File number `i` among these entries, where there are so many.
 fn file_at(entries: &[(Path, Entry)], i: usize) -> Option<(&Path, &Blob)>
     ensures { option_map (λ file. (file.0.now, file.1.now)) result
         ≡ slice_get (files_in entries.now) i }
@@ -309,7 +305,6 @@ fn file_at(entries: &[(Path, Entry)], i: usize) -> Option<(&Path, &Blob)>
     None
 }
 
-/// The path of kept folder number `i` among these entries, where there are so many.
 fn made_at(entries: &[(Path, Entry)], i: usize) -> Option<&Path>
     ensures { option_map (λ path. path.now) result ≡ slice_get (made_in entries.now) i }
 {
@@ -325,7 +320,6 @@ fn made_at(entries: &[(Path, Entry)], i: usize) -> Option<&Path>
     None
 }
 
-/// A tree's entries again, none of whose bytes are copied.
 fn shared(alloc: Global, entries: &[(Path, Entry)]) -> Result<Vec<(Path, Entry)>, NoMemory>
     ensures { MakesList result entries.now }
 {
@@ -336,16 +330,17 @@ fn shared(alloc: Global, entries: &[(Path, Entry)]) -> Result<Vec<(Path, Entry)>
     Ok(copy)
 }
 
-/// Why a file can't be put at a path, which stands at this place among the entries.
 fn put_fault(
     entries: &[(Path, Entry)],
     place: usize,
     path: &Path,
     content: &Blob,
 ) -> Option<EditFault>
+    // What callers give:
     requires tree { IsTree entries.now }
     requires place { place ≡ place_in entries.now path.now }
     requires within { place ≤ length entries.now }
+    // What is answered, and what is so of each path and content:
     ensures fault { result ≡ fault_of entries.now (Edit.Put path.now content.now) }
     ensures path { IsPath path.now }
     ensures content { IsBytes content.now }
@@ -362,7 +357,6 @@ fn put_fault(
     }
 }
 
-/// Why no file can be taken out at a path, which stands at this place among the entries.
 fn remove_fault(entries: &[(Path, Entry)], place: usize, path: &Path) -> Option<EditFault>
     requires tree { IsTree entries.now }
     requires place { place ≡ place_in entries.now path.now }
@@ -375,7 +369,6 @@ fn remove_fault(entries: &[(Path, Entry)], place: usize, path: &Path) -> Option<
     }
 }
 
-/// Why no folder can be made at a path, which stands at this place among the entries.
 fn make_folder_fault(entries: &[(Path, Entry)], place: usize, path: &Path) -> Option<EditFault>
     requires tree { IsTree entries.now }
     requires place { place ≡ place_in entries.now path.now }
@@ -394,7 +387,6 @@ fn make_folder_fault(entries: &[(Path, Entry)], place: usize, path: &Path) -> Op
     }
 }
 
-/// Why no folder can be taken out at a path, which stands at this place among the entries.
 fn remove_folder_fault(entries: &[(Path, Entry)], place: usize, path: &Path) -> Option<EditFault>
     requires tree { IsTree entries.now }
     requires place { place ≡ place_in entries.now path.now }
@@ -410,7 +402,7 @@ fn remove_folder_fault(entries: &[(Path, Entry)], place: usize, path: &Path) -> 
     }
 }
 
-/// Why an edit is refused, or none where it isn't; its path stands at this place among the entries.
+/// Why an edit, whose path has this place, is refused.
 fn refusal(entries: &[(Path, Entry)], place: usize, edit: &Edit) -> Option<EditFault>
     requires tree { IsTree entries.now }
     requires place { place ≡ place_in entries.now (path_in edit.now) }
@@ -426,7 +418,6 @@ fn refusal(entries: &[(Path, Entry)], place: usize, edit: &Edit) -> Option<EditF
     }
 }
 
-/// Why the first of the edits is refused, or none where it isn't, or where there are no edits.
 fn first_refusal(entries: &[(Path, Entry)], edits: &[Edit]) -> Option<EditFault>
     requires { IsTree entries.now }
     ensures { result ≡ first_fault entries.now edits.now }
@@ -437,7 +428,7 @@ fn first_refusal(entries: &[(Path, Entry)], edits: &[Edit]) -> Option<EditFault>
     }
 }
 
-/// Lets a path, which stands at this place among the entries, map to an entry from now on.
+/// Maps a path, which has this place, to an entry.
 fn enter(
     entries: &mut Vec<(Path, Entry)>,
     place: usize,
@@ -456,7 +447,7 @@ fn enter(
     Ok(())
 }
 
-/// Makes an edit that isn't refused; its path stands at this place among the entries.
+/// Makes an edit that isn't refused.
 fn make(entries: &mut Vec<(Path, Entry)>, place: usize, edit: &Edit) -> Result<(), NoMemory>
     requires tree { IsTree entries.old.items }
     requires place { place ≡ place_in entries.old.items (path_in edit.now) }
@@ -476,7 +467,7 @@ fn make(entries: &mut Vec<(Path, Entry)>, place: usize, edit: &Edit) -> Result<(
     }
 }
 
-/// Makes one edit, or answers why it is refused.
+/// Makes one edit, or answers why not.
 fn apply_one(entries: &mut Vec<(Path, Entry)>, edit: &Edit) -> Result<Option<EditFault>, NoMemory>
     requires { IsTree entries.old.items }
     ensures fault { IfOk result (λ fault. fault ≡ fault_of entries.old.items edit.now) }
@@ -493,10 +484,12 @@ fn apply_one(entries: &mut Vec<(Path, Entry)>, edit: &Edit) -> Result<Option<Edi
     Ok(fault)
 }
 
-/// One new tree, after all of the edits in order, or the place and fault of the first that is refused; the
-/// old tree stays as it is. The bytes of files are shared between both, and an edit costs a number of
-/// comparisons of paths that grows with the logarithm of the number of entries. Memory is asked for only once the
-/// first edit has been checked, so that its refusal is never hidden by a lack of it; of a later one it may be.
+/// The tree after all edits in order, or the place and fault of the first that is refused. The old
+/// tree shares the files' bytes and stays.
+///
+/// An edit compares a number of paths that grows with the logarithm of the number of entries.
+/// Memory is asked for only after the first edit is checked, so a later refusal may be hidden by a
+/// lack of it.
 pub fn apply(alloc: Global, tree: &Tree, edits: &[Edit]) -> Result<Tree, ApplyFault>
     ensures applied { Gives (λ t. t) apply_cause result (apply_all tree.now edits.now) }
     ensures tree { IfOk result (λ t. IsTree t) }
