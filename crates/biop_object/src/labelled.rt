@@ -1,5 +1,3 @@
-//! Lists in which the first element of a label is found by halves.
-
 ghost use Rattle.std.specs.Prelude.{◌≡◌, ◌<◌, ◌++◌, ◌∷◌, [], length, map, IfOk, IfSome};
 ghost use Rattle.biop_object.specs.Inner.Labels.{first_at};
 
@@ -8,7 +6,7 @@ use std::alloc::Global;
 use std::collections::BTreeMap;
 use std::marker::Model;
 
-/// What stands in a list under a label, 0 to 255 bytes.
+/// What has a label of 0 to 255 bytes.
 pub(crate) trait HasLabel {
     ghost use Rattle.std.specs.Prelude.{List, ℕ};
 
@@ -18,7 +16,7 @@ pub(crate) trait HasLabel {
         ensures { result.now ≡ label self.now };
 }
 
-/// A list in which the first element of a label is found by halves. Contracts see the list.
+/// A list in which the first element of a label is found by halves.
 #[derive(Drop)]
 pub(crate) struct Labelled<T: HasLabel> {
     items: Vec<T>,
@@ -39,7 +37,7 @@ impl<T: HasLabel> Model for Labelled<T> {
 }
 
 impl<T: HasLabel> Labelled<T> {
-    /// The empty list. It takes no memory.
+    /// The empty list, without memory.
     pub(crate) fn new(alloc: Global) -> Labelled<T>
         ensures { result ≡ [] }
     {
@@ -65,14 +63,12 @@ impl<T: HasLabel> Labelled<T> {
         Ok(Labelled { items, firsts })
     }
 
-    /// The elements in order.
     pub(crate) fn items(&self) -> &[T]
         ensures { result.now ≡ self.now }
     {
         &self.items
     }
 
-    /// The place of the first element of a label.
     pub(crate) fn first(&self, label: &[u8]) -> Option<usize>
         ensures first { result ≡ first_at label.now (map T.label self.now) }
         ensures inside { IfSome result (λ place. place < length self.now) }

@@ -1,6 +1,8 @@
-//! BIOP messages: files and folders of a carousel, as they stand in a module, and the index of a module's objects.
+//! BIOP messages: a carousel's files and folders in a module, and the index of a module's objects.
 //!
-//! The layout is that of ISO/IEC 13818-6, clause 11.3, in the profile of ETSI TR 101 202, clause 4.7.
+//! The layout is that of ISO/IEC 13818-6, clause 11.3, in the profile of ETSI TR 101 202, clause
+//! 4.7. That a folder's message has at most [`MOST_FOLDER_SIZE`] bytes, and that the first binding
+//! of a name counts, is this project's own.
 //!
 //! ```
 //! use biop_object::{Found, Module, Span, encode_file};

@@ -6,17 +6,19 @@ use crate::written::{
     FILE_BINDING, FILE_FRONT, FOLDER_BINDING, FOLDER_FRONT, MESSAGE_HEAD, MOST_FOLDER_SIZE,
 };
 
-/// The limit of a folder's object, and what objects and bindings take beside contents and names, in bytes.
+/// Sizes in bytes.
 pub fn limits_are_numbers()
+    // Messages:
     ensures folder { MOST_FOLDER_SIZE ≡ 1048576 }
     ensures head { MESSAGE_HEAD ≡ 12 }
     ensures file_front { FILE_FRONT ≡ 44 }
     ensures folder_front { FOLDER_FRONT ≡ 34 }
+    // Bindings, without their names:
     ensures file_binding { FILE_BINDING ≡ 82 }
     ensures folder_binding { FOLDER_BINDING ≡ 74 }
 {}
 
-/// The kinds of objects are these bytes, and a message begins with BIOP, version 1.0, byte order 0 and message type 0.
+/// The kinds of objects, and how a message begins, in bytes.
 pub fn kinds_are_bytes()
     ensures file { FILE ≡ 102 ∷ 105 ∷ 108 ∷ 0 ∷ [] }
     ensures directory { DIRECTORY ≡ 100 ∷ 105 ∷ 114 ∷ 0 ∷ [] }

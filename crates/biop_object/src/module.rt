@@ -1,5 +1,3 @@
-//! A module with the index of its objects.
-
 ghost use Rattle.std.specs.Prelude.{◌≡◌, ◌<◌, ◌≤◌, ◌+◌, List, ℕ, Option, length, map, Some, IfOk, IfErr, IsErr, IsSome, option_and_then, slice_get};
 ghost use Rattle.std.specs.List.{find};
 ghost use Rattle.std.specs.Option.{option_map};
@@ -17,21 +15,21 @@ use path_tree::Name;
 use std::alloc::Global;
 use std::marker::Model;
 
-/// Where a file's content lies in its module: the offset of its first byte, and how many bytes it has.
+/// Where a file's content is in its module.
 #[derive(Clone, Copy, Debug, PartialEq, Eq)]
 pub struct Span {
-    /// The offset of the first byte in the module.
+    /// The offset of its first byte.
     pub first: usize,
     /// The number of bytes.
     pub length: usize,
 }
 
-/// One binding of a folder: a name, and what it leads to.
+/// One binding of a folder.
 #[derive(Drop)]
 pub struct Binding {
-    /// The name, 0 to 255 bytes: the id of the one name component, without one zero at its end.
+    /// The name component's id without one zero at its end, 0 to 255 bytes.
     pub name: Name,
-    /// The kind of the name component as it is read, 0 to 255 bytes.
+    /// The name component's kind as it is read, 0 to 255 bytes.
     pub kind: Vec<u8>,
     /// The reference to the object.
     pub target: Ior,
@@ -50,18 +48,16 @@ impl HasLabel for Binding {
 pub enum Found {
     /// A file, with the place of its content.
     File(Span),
-    /// A directory or a service gateway, by its number among the module's objects from 0; [`Module::bindings`] gives
-    /// its bindings.
+    /// A directory or gateway, by its number among the objects, from 0; see [`Module::bindings`].
     Folder(usize),
     /// An object of another kind.
     Other,
-    /// No object of this key stands before this offset, at which the first message begins that doesn't read.
+    /// No object before this offset has this key; the message there doesn't read.
     Bad(usize),
-    /// No object of the module, which reads to its end, has this key.
+    /// The module reads to its end, and no object has this key.
     Missing,
 }
 
-/// What one object is.
 #[derive(Drop)]
 pub(crate) enum Kind {
     File(Span),
@@ -81,7 +77,7 @@ impl Kind {
     }
 }
 
-/// An object of the index: its key, 0 to 255 bytes, and what it is.
+/// An object: its key, 0 to 255 bytes, and what it is.
 #[derive(Drop)]
 pub(crate) struct Indexed {
     pub(crate) key: Vec<u8>,
@@ -96,10 +92,9 @@ impl HasLabel for Indexed {
     }
 }
 
-/// The bytes of a module, with the index of its objects: BIOP messages back to back from the front, up to the end or to
-/// the first that doesn't read (ISO/IEC 13818-6, clause 11.3.2; ETSI TR 101 202, clause 4.7.4).
-///
-/// Contracts see its bytes; the index is the reading of them.
+/// The bytes of a module, with the index of its objects: BIOP messages back to back, up to the end
+/// or to the first that doesn't read (ISO/IEC 13818-6, clause 11.3.2; ETSI TR 101 202, clause
+/// 4.7.4).
 #[derive(Drop)]
 pub struct Module {
     bytes: Vec<u8>,
@@ -117,7 +112,7 @@ impl Model for Module {
 
     ghost view = { λ m. m.bytes.items };
 
-    // the index is the reading of the bytes
+    // The index is the reading of the bytes.
     ghost invariant = { λ m. IsIndexed m.bytes.items (view_index m.index) m.stop };
 }
 
@@ -168,16 +163,15 @@ impl Module {
     ghost use Rattle.biop_object.specs.ObjectReading.{index_of, found_of, bindings_of};
     ghost use Rattle.biop_object.specs.declared.module.Span.{Span};
 
-    /// Reads the index of a module. It takes time and memory in proportion to the module's size.
+    /// Reads the index of a module, in time and memory in proportion to its size.
     ///
-    /// Out of memory is the one refusal, and hands the bytes back: reading stops at the first message that breaks a
-    /// rule, and [`Module::find`] tells the place. Memory is asked for only where the bytes begin with a message's
-    /// front, its size and as many bytes.
+    /// `Err` is out of memory, with the bytes. A message that breaks a rule only ends the index, as
+    /// [`Module::find`] tells.
     pub fn read(alloc: Global, bytes: Vec<u8>) -> Result<Module, (NoMemory, Vec<u8>)>
         ensures ok { IfOk result (λ m. m ≡ bytes.items) }
         ensures err { IfErr result (λ e. e.1 ≡ bytes) }
         ensures memory { IsErr result → BeginsFramed bytes.items }
-        // The index that the other calls answer by is the one reading of the bytes.
+        // The one reading of the bytes:
         ensures reads { IfOk result (λ m. ReadsModule 0 m (index_of m).0 (index_of m).1) }
         ensures only { (objects : List Object) (stop : Option ℕ)
             → ReadsModule 0 bytes.items objects stop
@@ -200,20 +194,17 @@ impl Module {
         &self.bytes
     }
 
-    /// The module's bytes, given away: the index is dropped, and nothing is copied.
+    /// The module's bytes, given away without a copy.
     pub fn into_bytes(self) -> Vec<u8>
         ensures { result.items ≡ self }
     {
         self.bytes
     }
 
-    /// What the first object of this key is. It takes no memory, and doesn't read the messages again.
-    ///
-    /// Where no object has the key, `Bad` gives the offset at which reading stopped, and `Missing` says that the module
-    /// was read to its end.
+    /// What the first object of this key is. It takes no memory, and reads no message again.
     pub fn find(&self, key: &[u8]) -> Found
         ensures found { result ≡ found_of self.now key.now }
-        // What is asked of a caller of `bindings`.
+        // What `bindings` asks of its caller:
         ensures folder { (k : ℕ) → result ≡ Found.Folder k → IsSome (bindings_of self.now k) }
         ensures inside { (span : Span)
             → result ≡ Found.File span
@@ -222,8 +213,7 @@ impl Module {
         find_in(&self.index, self.stop, key)
     }
 
-    /// The bindings of a folder in the order of the message; `folder` is the number that [`Module::find`] gave on this
-    /// module. It takes no memory.
+    /// A folder's bindings in the message's order; `folder` is a number that [`Module::find`] gave.
     pub fn bindings(&self, folder: usize) -> &[Binding]
         requires { IsSome (bindings_of self.now folder) }
         ensures { bindings_of self.now folder ≡ Some (map view_binding result.now) }
@@ -231,8 +221,7 @@ impl Module {
         self.folder(folder).items()
     }
 
-    /// The first binding of a folder with this name, which may be of any length; `folder` is as for [`Module::bindings`].
-    /// None where no binding has the name. It takes no memory, and finds the name by halves.
+    /// The first binding of this name, found by halves; `folder` is as for [`Module::bindings`].
     pub fn binding(&self, folder: usize, name: &[u8]) -> Option<&Binding>
         requires { IsSome (bindings_of self.now folder) }
         ensures { option_map (λ b. view_binding b.now) result
@@ -241,9 +230,8 @@ impl Module {
         first_named(self.folder(folder), name)
     }
 
-    /// Whether no binding before binding `i` of a folder has its name; `folder` is as for [`Module::bindings`], and `i`
-    /// is from 0 and below the number of the folder's bindings. It takes no memory, and finds the name by halves. That
-    /// a name may stand twice, and the first then counts, is this project's own rule.
+    /// Whether binding `i`, from 0, is the first of its name, found by halves; `folder` is as for
+    /// [`Module::bindings`].
     pub fn is_first(&self, folder: usize, i: usize) -> bool
         requires folder { IsSome (bindings_of self.now folder) }
         requires below { i < length (names_of (bindings_of self.now folder)) }

@@ -1,5 +1,3 @@
-//! Reading BIOP messages from left to right.
-
 ghost use Rattle.std.specs.Prelude.{◌≡◌, ◌≤◌, ◌<◌, ◌+◌, ℕ, List, Ok, Err, length, take, drop, map, IfOk, IfErr, IfSome, IsOk, IsErr, IsErrOf, true, false};
 ghost use Rattle.oc_bytes.specs.Numbers.{IsBytes};
 ghost use Rattle.oc_bytes.specs.Outcome.{Gives};
@@ -21,7 +19,6 @@ use oc_bytes::{Cut, Fields, NoMemory};
 use path_tree::Name;
 use std::alloc::{AllocError, AllocFailed, Global};
 
-/// Why a message isn't read.
 #[derive(Clone, Copy, Debug, PartialEq, Eq)]
 pub(crate) enum ReadFault {
     /// The place of the first field that is cut or breaks a rule.
@@ -69,7 +66,6 @@ fn ior_of(alloc: Global, fields: &mut Fields<'_>) -> Result<Ior, ReadFault>
     }
 }
 
-/// An id without one zero at its end.
 fn without_zero(id: &[u8]) -> &[u8]
     ensures name { result.now ≡ drop_zero id.now }
     ensures short { length result.now ≤ length id.now }
@@ -129,7 +125,6 @@ fn file_of(fields: &mut Fields<'_>) -> Result<Span, Cut>
     Ok(Span { first, length })
 }
 
-/// A service context, passed over.
 #[tactic(auto, unfolding(oc_bytes::specs::Grammar::read))]
 fn pass_context(fields: &mut Fields<'_>) -> Result<(), Cut>
     ensures { Gives (λ _. (tt, fields.new)) place_of result
@@ -153,13 +148,12 @@ fn pass_contexts(fields: &mut Fields<'_>, count: u8) -> Result<(), Cut>
 /// The kind of a file.
 pub const FILE: [u8; 4] = *b"fil\0";
 
-/// The kind of a folder that isn't the root.
+/// The kind of a folder below the root.
 pub const DIRECTORY: [u8; 4] = *b"dir\0";
 
-/// The kind of a gateway, the root.
+/// The kind of the root, the gateway.
 pub const GATEWAY: [u8; 4] = *b"srg\0";
 
-/// What a message's body says, by the message's kind.
 #[tactic(auto, unfolding(oc_bytes::specs::Grammar::read))]
 fn kind_of(alloc: Global, kind: &[u8], fields: &mut Fields<'_>) -> Result<Kind, ReadFault>
     ensures { Gives (λ k. (view_kind k, fields.new)) cause result
@@ -174,7 +168,7 @@ fn kind_of(alloc: Global, kind: &[u8], fields: &mut Fields<'_>) -> Result<Kind, 
     Ok(Kind::Other)
 }
 
-/// A body with its length before it, which is taken whole.
+/// A body after its length; all of the length is taken.
 #[tactic(auto, using(crate::proofs::Places::body_is))]
 fn body_of(alloc: Global, kind: &[u8], fields: &mut Fields<'_>) -> Result<Kind, ReadFault>
     ensures { Gives (λ k. (view_kind k, fields.new)) cause result
@@ -185,7 +179,6 @@ fn body_of(alloc: Global, kind: &[u8], fields: &mut Fields<'_>) -> Result<Kind, 
     kind_of(alloc, kind, &mut body)
 }
 
-/// What stands in a message before its body.
 #[derive(Drop)]
 struct Heading<'a> {
     key: &'a [u8],
@@ -215,7 +208,7 @@ fn message_of(alloc: Global, fields: &mut Fields<'_>) -> Result<Indexed, ReadFau
     Ok(Indexed { key, kind })
 }
 
-/// A message with its size before it, which is taken whole.
+/// A message after its size; all of the size is taken.
 #[tactic(auto, using(crate::proofs::Places::sized_is), unfolding(oc_bytes::specs::Grammar::read))]
 fn sized_message_of(alloc: Global, fields: &mut Fields<'_>) -> Result<Indexed, ReadFault>
     ensures reads { Gives (λ i. (view_indexed i, fields.new)) cause result
@@ -241,14 +234,13 @@ fn object_of(alloc: Global, fields: &mut Fields<'_>) -> Result<Indexed, ReadFaul
     sized_message_of(alloc, fields)
 }
 
-/// The objects of a module in order, and the place of the first message that doesn't read, if there is one.
+/// The objects in order, and the place of the first message that doesn't read.
 #[derive(Drop)]
 pub(crate) struct Index {
     pub(crate) objects: Labelled<Indexed>,
     pub(crate) stop: Option<usize>,
 }
 
-/// Reads the messages of a module back to back, up to its end or to the first that doesn't read.
 #[tactic(auto, using(oc_bytes::proofs::CallerLemmas::bytes_fit, crate::proofs::Indexing::has_begun))]
 pub(crate) fn read_index(alloc: Global, bytes: &[u8]) -> Result<Index, NoMemory>
     ensures index { IfOk result (λ i. (view_index i.objects, i.stop) ≡ index_of bytes.now) }

@@ -1,5 +1,3 @@
-//! Writing BIOP messages of files and folders.
-
 ghost use Rattle.std.specs.Prelude.{◌≡◌, ◌≤◌, ◌<◌, ◌+◌, ◌∷◌, [], ◌++◌, ℕ, length, map, take, IfOk, OnOk, MatchOption, IsErrOf};
 ghost use Rattle.std.specs.List.{All, flat_map};
 ghost use Rattle.oc_bytes.specs.Outcome.{MakesList};
@@ -17,10 +15,10 @@ use path_tree::Name;
 use std::alloc::{AllocError, Global};
 use thiserror::Error;
 
-/// The most bytes of a folder's message. This project's own limit.
+/// The most bytes of a folder's message.
 pub const MOST_FOLDER_SIZE: u32 = 1_048_576;
 
-/// The bytes of a message's head: its magic, version, byte order, type and size. As many as the size says follow.
+/// The bytes of a message's head, up to its size field, which counts those after it.
 pub const MESSAGE_HEAD: u32 = 12;
 
 /// The bytes of a file's message before its content.
@@ -29,13 +27,13 @@ pub const FILE_FRONT: u32 = 44;
 /// The bytes of a folder's message before its bindings.
 pub const FOLDER_FRONT: u32 = 34;
 
-/// The bytes of a file's binding beside the name.
+/// The bytes of a file's binding besides the name.
 pub const FILE_BINDING: u32 = 82;
 
-/// The bytes of a folder's binding beside the name.
+/// The bytes of a folder's binding besides the name.
 pub const FOLDER_BINDING: u32 = 74;
 
-/// Which folder is written: a directory below the root, or the root, which is the service gateway.
+/// A directory below the root, or the root's service gateway.
 #[derive(Clone, Copy, Debug, PartialEq, Eq)]
 pub enum FolderKind {
     Directory,
@@ -53,10 +51,10 @@ impl FolderKind {
     }
 }
 
-/// What a binding that is written leads to.
+/// What a written binding leads to.
 #[derive(Clone, Copy, Debug, PartialEq, Eq)]
 pub enum Bound {
-    /// A file, with the size of its content in bytes.
+    /// A file, with its content's size in bytes.
     File(u64),
     /// A directory.
     Folder,
@@ -65,11 +63,11 @@ pub enum Bound {
 /// A binding to be written.
 #[derive(Drop)]
 pub struct Written {
-    /// The name, 1 to 254 bytes, which is written with a zero byte after it.
+    /// The name, 1 to 254 bytes; a zero byte is written after it.
     pub name: Name,
     /// What it leads to.
     pub bound: Bound,
-    /// Where that object lies; its key has 4 bytes, and its module is 1 to [`module_groups::GREATEST_ID`].
+    /// Where that object is: a key of 4 bytes, a module 1 to [`module_groups::GREATEST_ID`].
     pub location: Location,
 }
 
@@ -92,10 +90,10 @@ impl From<AllocError> for ObjectFault {
     }
 }
 
-/// The one spelling of a file as a BIOP message, [`FILE_FRONT`] bytes and the content.
+/// The one spelling of a file (ISO/IEC 13818-6, clause 11.3.2.2; ETSI TR 101 202, clause 4.7.4.2).
 ///
-/// The key has 4 bytes, and the content at most [`path_tree::MOST_CONTENT`]. The objectInfo is the content's size in 8 bytes, no service
-/// context is written, and the sizes are exact (ISO/IEC 13818-6, clause 11.3.2.2; ETSI TR 101 202, clause 4.7.4.2).
+/// The key has 4 bytes, the content at most [`path_tree::MOST_CONTENT`]. The objectInfo is the
+/// content's size in 8 bytes; there is no service context. `Err` is out of memory.
 #[tactic(auto, using(crate::proofs::Spellings::file_reads))]
 pub fn encode_file(alloc: Global, key: &Key, content: &[u8]) -> Result<Vec<u8>, NoMemory>
     requires key { length key.now ≡ 4 }
@@ -123,14 +121,11 @@ fn file_bytes(alloc: Global, key: &Key, content: &[u8]) -> Result<Vec<u8>, NoMem
     Ok(out.done())
 }
 
-/// The one spelling of a folder as a BIOP message: [`FOLDER_FRONT`] bytes, and for each binding the bytes of its name and
-/// [`FILE_BINDING`] more for a file, [`FOLDER_BINDING`] more for a directory.
+/// The one spelling of a folder (ISO/IEC 13818-6, clause 11.3.2.2; ETSI TR 101 202, clauses 4.7.4.1
+/// and 4.7.4.3).
 ///
-/// The key has 4 bytes, each name 1 to 254, and the key of each location 4; each location's module is 1 to
-/// [`module_groups::GREATEST_ID`]. The bindings stand in the order of the entries, each with the tap of its location's module; the
-/// objectInfo is empty, no service context is written, and the sizes are exact. `TooLarge` comes exactly
-/// where the message would have more than [`MOST_FOLDER_SIZE`] bytes, and memory is asked for only where it hasn't.
-/// (ISO/IEC 13818-6, clause 11.3.2.2; ETSI TR 101 202, clauses 4.7.4.1 and 4.7.4.3.)
+/// The key has 4 bytes. The bindings keep the order of the entries, each with the tap of its
+/// module. The objectInfo is empty; there is no service context.
 #[tactic(auto, using(crate::proofs::Spellings::folder_length, crate::proofs::Spellings::folder_reads))]
 pub fn encode_folder(
     alloc: Global,
@@ -138,14 +133,17 @@ pub fn encode_folder(
     key: &Key,
     entries: &[Written],
 ) -> Result<Vec<u8>, ObjectFault>
+    // What callers give:
     requires key { length key.now ≡ 4 }
     requires entries { All IsEntry entries.now }
+    // What is written:
     ensures spells { IfOk result (λ bytes.
         (bytes.items ≡ folder_spelling kind key.now entries.now)
         × (length bytes.items ≤ MOST_FOLDER_SIZE)) }
     ensures size { IfOk result (λ bytes. length bytes.items ≡ folder_size entries.now) }
     ensures reads { IfOk result (λ bytes. (at : ℕ) → ReadsObject at bytes.items
         (record { key = key.now; shape = IsFolder (map binding_of entries.now) })) }
+    // When each error comes:
     ensures too_large { IsErrOf result ObjectFault.TooLarge
         → MOST_FOLDER_SIZE < length (folder_spelling kind key.now entries.now) }
     ensures large { MOST_FOLDER_SIZE < length (folder_spelling kind key.now entries.now)
@@ -168,10 +166,12 @@ fn folder_bytes(
     entries: &[Written],
     size: u32,
 ) -> Result<Vec<u8>, NoMemory>
+    // What callers give:
     requires key { length key.now ≡ 4 }
     requires entries { All IsEntry entries.now }
     requires size { size ≡ folder_size entries.now }
     requires small { size ≤ MOST_FOLDER_SIZE }
+    // What is written:
     ensures spells { MakesList result (folder_spelling kind key.now entries.now) }
     ensures room { OnOk result (All (λ w. IsLocation w.location) entries.now) }
 {
@@ -188,7 +188,7 @@ fn folder_bytes(
     Ok(out.done())
 }
 
-/// The number of bytes of a folder, if it is at most [`MOST_FOLDER_SIZE`].
+/// The size in bytes, if it is within the limit.
 fn size_of(entries: &[Written]) -> Option<u32>
     requires { All IsEntry entries.now }
     ensures { MatchOption result (MOST_FOLDER_SIZE < folder_size entries.now) (λ size.
@@ -216,7 +216,7 @@ fn size_of_binding(entry: &Written) -> u32
     }
 }
 
-/// What stands before the body of a message.
+/// What comes before the body of a message.
 fn put_front(
     out: &mut Writer,
     key: &[u8],
@@ -275,7 +275,7 @@ fn put_binding(out: &mut Writer, entry: &Written) -> Result<(), NoMemory>
     Ok(())
 }
 
-/// A name with a zero byte after it, as the one name component.
+/// The one name component: the name, a zero byte, and how long a kind follows.
 fn put_id(out: &mut Writer, name: &[u8]) -> Result<(), NoMemory>
     requires { length name.now ≤ 254 }
     ensures { OnOk result
@@ -289,7 +289,7 @@ fn put_id(out: &mut Writer, name: &[u8]) -> Result<(), NoMemory>
     Ok(())
 }
 
-/// The kind of what is bound, the binding's type, and the reference.
+/// The kind, the binding's type, and the reference.
 fn put_target(
     out: &mut Writer,
     binding_type: u8,
