@@ -2,7 +2,7 @@ ghost use Rattle.std.specs.Prelude.{◌≡◌, ◌≤◌, length};
 
 use std::marker::Model;
 
-/// An object's key: 0 to 255 bytes, which contracts see as their list.
+/// An object's key: 0 to 255 bytes.
 #[derive(Debug, Drop)]
 pub struct Key {
     bytes: Vec<u8>,
@@ -19,7 +19,7 @@ impl Model for Key {
 }
 
 impl Key {
-    /// The key of these bytes, at most 255. It takes no memory.
+    /// The key of these bytes, at most 255.
     pub fn new(bytes: Vec<u8>) -> Key
         requires { length bytes.items ≤ 255 }
         ensures { result ≡ bytes.items }

@@ -1,6 +1,7 @@
-//! IORs: references to objects of a carousel, with the place of the object and the taps that deliver it.
+//! IORs: references to objects of a carousel, with the taps that deliver them.
 //!
 //! The layout is that of ISO/IEC 13818-6, clause 11, in the profile of ETSI TR 101 202, clause 4.7.
+//! That written taps have version and flag 0 is this project's own.
 //!
 //! ```
 //! use ior_tap::{IorFault, biop_of, decode};
@@ -32,51 +33,51 @@ pub use tags::{BINDER_TAG, BIOP_TAG, LOCATION_TAG, tags_are_numbers};
 use thiserror::Error;
 pub use writing::{delivery_of_module, encode, put_reference};
 
-/// A tap: how a stream of the network is reached (ISO/IEC 13818-6, clause 5.6).
+/// How a stream of the network is reached (ISO/IEC 13818-6, clause 5.6).
 #[derive(Debug, Drop)]
 pub struct Tap {
-    /// The number of the tap among others of its kind; 0 here.
+    /// Its number among taps of its kind; 0 here.
     pub id: u16,
-    /// What the tap is for: 0x0016 delivers the control messages of a carousel.
+    /// What it is for: 0x0016 delivers control messages.
     pub use_code: u16,
     /// The association tag of the elementary stream.
     pub assoc: u16,
-    /// The selector: 0 to 255 bytes as they are read.
+    /// The selector, 0 to 255 bytes.
     pub selector: Vec<u8>,
 }
 
-/// Where an object lies: a BIOP::ObjectLocation.
+/// Where an object is: a BIOP::ObjectLocation.
 #[derive(Debug, Drop)]
 pub struct Location {
     /// The carousel's id.
     pub carousel: u32,
-    /// The id of the module in which the object lies.
+    /// The module's id.
     pub module: u16,
-    /// The object's key in its module.
+    /// The object's key in it.
     pub key: Key,
 }
 
-/// The taps by which the object's module is reached: a DSM::ConnBinder, of 0 to 255 taps as it is read.
+/// The taps that reach the module: a DSM::ConnBinder.
 #[derive(Debug, Drop)]
 pub struct Binder {
-    /// The taps in order.
+    /// 0 to 255 taps, in order.
     pub taps: Vec<Tap>,
 }
 
 /// One profile of an IOR.
 #[derive(Debug, Drop)]
 pub enum Profile {
-    /// A BIOP profile with both of its components.
+    /// A BIOP profile with both components.
     Biop(Location, Binder),
-    /// A profile of another tag, or one of the BIOP tag that hasn't both components in the right form: the tag
-    /// and the profile's bytes.
+    /// Any other profile, also a BIOP one that lacks a component in the right form: its tag and
+    /// bytes.
     Other(u32, Vec<u8>),
 }
 
 /// A reference to an object (IOP::IOR).
 #[derive(Debug, Drop)]
 pub struct Ior {
-    /// The type id: four bytes, as `fil`, `dir` or `srg` with a zero byte.
+    /// The type id: `fil`, `dir` or `srg` and a zero byte.
     pub kind: [u8; 4],
     /// The profiles in order.
     pub profiles: Vec<Profile>,
@@ -85,7 +86,7 @@ pub struct Ior {
 /// Why an IOR wasn't read.
 #[derive(Clone, Copy, Debug, PartialEq, Eq, Error)]
 pub enum IorFault {
-    /// The place, in bytes from the front, of the first field outside the profiles' bytes that is cut, or of a
+    /// The place, in bytes, of the first field outside of the profiles' bytes that is cut, or of a
     /// type_id_length other than 4.
     #[error("no IOR: the field at byte {0} is cut or breaks a rule")]
     BadIor(usize),

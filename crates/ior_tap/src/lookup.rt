@@ -5,7 +5,7 @@ ghost use Rattle.ior_tap.specs.Iors.{view, biop_of_profiles, delivery_of_taps, v
 use crate::{Binder, Ior, Location, Profile, Tap};
 use carousel_profile::DELIVERY_USE;
 
-/// The location and the taps of the first BIOP profile, if there is one. It takes no memory.
+/// Location and taps of the first BIOP profile, without memory.
 pub fn biop_of(ior: &Ior) -> Option<(&Location, &Binder)>
     ensures { option_map (λ x. (x.0.now, map view_tap x.1.now.taps.items)) result
         ≡ biop_of_profiles (view ior.now).profiles }
@@ -18,8 +18,9 @@ pub fn biop_of(ior: &Ior) -> Option<(&Location, &Binder)>
     None
 }
 
-/// The transactionId of the first tap that delivers control messages, if there is one: of use 0x0016, with a
-/// selector of at least 10 bytes and of type 0x0001 (ETSI TR 101 202, clause 4.7.5). It takes no memory.
+/// The transactionId of the first tap that delivers control messages: of use 0x0016, with a
+/// selector of type 0x0001 and at least 10 bytes (ETSI TR 101 202, clause 4.7.5). It takes no
+/// memory.
 pub fn delivery_of(binder: &Binder) -> Option<u32>
     ensures { result ≡ delivery_of_taps (map view_tap binder.now.taps.items) }
 {

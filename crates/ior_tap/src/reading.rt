@@ -70,7 +70,6 @@ fn location_of(alloc: Global, fields: &mut Fields<'_>) -> Result<Location, IorFa
     })
 }
 
-/// The location that a component's bytes hold, if they are read as one.
 fn location_in(alloc: Global, content: &[u8]) -> Result<Option<Location>, NoMemory>
     ensures { IfOk result (λ l. l ≡ front_of iors.location content.now) }
 {
@@ -82,7 +81,6 @@ fn location_in(alloc: Global, content: &[u8]) -> Result<Option<Location>, NoMemo
     }
 }
 
-/// The taps that a component's bytes hold, if they are read as a ConnBinder.
 fn binder_in(alloc: Global, content: &[u8]) -> Result<Option<Binder>, NoMemory>
     ensures { IfOk result (λ b.
         option_map (λ x. map view_tap x.taps.items) b
@@ -96,7 +94,6 @@ fn binder_in(alloc: Global, content: &[u8]) -> Result<Option<Binder>, NoMemory>
     }
 }
 
-/// A component of a profile: its tag and its bytes.
 #[derive(Clone, Copy)]
 struct Component<'a> {
     tag: u32,
@@ -113,7 +110,7 @@ fn component_of<'a>(fields: &mut Fields<'a>) -> Result<Component<'a>, Cut>
     Ok(Component { tag, content })
 }
 
-/// The bytes of the first ObjectLocation and of the first ConnBinder of a profile.
+/// The first ObjectLocation and the first ConnBinder of a profile.
 #[derive(Clone, Copy)]
 struct Parts<'a> {
     location: Option<&'a [u8]>,
@@ -121,7 +118,6 @@ struct Parts<'a> {
 }
 
 impl<'a> Parts<'a> {
-    /// With one more component after those seen so far.
     fn with(self, component: Component<'a>) -> Parts<'a>
         ensures location { option_copied result.location
             ≡ option_or (option_copied self.entry.location)
@@ -174,7 +170,7 @@ fn parts_in<'a>(fields: &mut Fields<'a>) -> Result<Parts<'a>, Cut>
     parts_of(fields, count)
 }
 
-/// The profile that the bytes of a BIOP profile hold, if both components are there in the right form.
+/// None unless both components are there in the right form.
 fn biop_in(alloc: Global, content: &[u8]) -> Result<Option<Profile>, NoMemory>
     ensures { IfOk result (λ p.
         option_map view_profile p
@@ -196,7 +192,6 @@ fn biop_in(alloc: Global, content: &[u8]) -> Result<Option<Profile>, NoMemory>
     Ok(Some(Profile::Biop(location, binder)))
 }
 
-/// What a profile's bytes stand for.
 fn profile_in(alloc: Global, tag: u32, content: &[u8]) -> Result<Profile, NoMemory>
     ensures { IfOk result (λ p. view_profile p ≡ profile_of tag content.now) }
 {
@@ -264,31 +259,27 @@ fn read(alloc: Global, bytes: &[u8]) -> Result<(Ior, usize), IorFault>
     Ok((ior, fields.place()))
 }
 
-/// Reads an IOR at the front of these bytes, and gives it with the number of bytes that it has. What stands after
-/// it is passed over.
+/// Reads an IOR at the front of these bytes, and gives how many it has (ISO/IEC 13818-6, clause
+/// 11.3; ETSI TR 101 202, clause 4.7.3).
 ///
-/// A profile of the BIOP tag that hasn't both an ObjectLocation and a ConnBinder, or in whose bytes a rule is broken,
-/// is `Other`, as one of any other tag is; the first component of each of the two tags counts. Bytes after a
-/// profile's last component, after a location's key and after a binder's taps are passed over.
-///
-/// `BadIor(place)` comes exactly where a field outside the profiles' bytes is cut, or the type_id_length isn't 4; the
-/// place is the first byte of the first such field. `NoMemory` comes only where the fields before the first profile are
-/// read and there is to be a profile.
-/// (ISO/IEC 13818-6, clause 11.3; ETSI TR 101 202, clause 4.7.3.)
+/// The first component of each tag counts. It ignores bytes after the IOR, a profile's last
+/// component, a location's key, and a binder's taps.
 pub fn decode(alloc: Global, bytes: &[u8]) -> Result<(Ior, usize), IorFault>
+    // What is read:
     ensures found { IfOk result (λ x.
         (x.1 ≤ length bytes.now) × Reads (take x.1 bytes.now) (view x.0)) }
     ensures only { (ior : IorFields) (n : ℕ)
         → n ≤ length bytes.now
         → Reads (take n bytes.now) ior
         → Gives {Y = IorFields × ℕ} (λ x. (view x.0, x.1)) cause result (Ok (ior, n)) }
-    // A spelling with any bytes after it is read as its value.
+    // A spelling, whatever follows it:
     ensures again { (kind rest : List ℕ) (l : Location)
         → IsWritten (written_form kind l) l
         → IsLocation l
         → bytes.now ≡ spelling kind l ++ rest
         → Gives {Y = IorFields × ℕ} (λ x. (view x.0, x.1)) cause result
         (Ok (written_form kind l, length (spelling kind l))) }
+    // The answer in full, and when each error comes:
     ensures exact { Gives (λ x. (view x.0, x.1)) cause result
         (read_from_start (ior_at (from_start bytes.now))) }
     ensures inside { IfErr result (λ e. IfSome (cause e) (λ place. place ≤ length bytes.now)) }
@@ -298,9 +289,8 @@ pub fn decode(alloc: Global, bytes: &[u8]) -> Result<(Ior, usize), IorFault>
     read(alloc, bytes)
 }
 
-/// Reading an IOR from left to right and the grammar of IORs say the same, and places count from any start; what is
-/// written is in the grammar, and is read at any place whatever stands after it. A law about the definitions alone,
-/// which the crates above call where an IOR stands inside a message of theirs.
+/// Reading from left to right agrees with the grammar, from any place; what is written is in the
+/// grammar and is read back.
 pub fn one_reading()
     ensures agree { Agrees ior_at (InBytes Reads) }
     ensures written { (kind : List ℕ) (l : Location)

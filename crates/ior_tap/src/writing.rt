@@ -9,13 +9,12 @@ use module_groups::group_of;
 use oc_bytes::{NoMemory, Writer};
 use std::alloc::Global;
 
-/// The one spelling of an IOR, 63 bytes.
+/// The one spelling of an IOR (ISO/IEC 13818-6, clause 11.3; ETSI TR 101 202, clauses 4.7.3 and
+/// 4.7.5).
 ///
-/// The IOR has the written form: one BIOP profile of a location with a key of 4 bytes and a module from 1 to
-/// [`module_groups::GREATEST_ID`], and of one tap, which delivers the control messages (use 0x0016, association tag 0x0001,
-/// selector type 0x0001, the transactionId of the DII that lists the module with version and flag 0, no time-out). The location
-/// stands first, the tap second.
-/// (ISO/IEC 13818-6, clause 11.3; ETSI TR 101 202, clauses 4.7.3 and 4.7.5.)
+/// The IOR has one BIOP profile: first a location with a key of 4 bytes and a module from 1 to
+/// [`module_groups::GREATEST_ID`], then one tap as [`delivery_of_module`] says. `Err` is out of
+/// memory.
 pub fn encode(alloc: Global, ior: &Ior) -> Result<Vec<u8>, NoMemory>
     requires { (l : Location) × IsWritten (view ior.now) l }
     ensures spells { IfOk result (λ bytes.
@@ -31,29 +30,25 @@ pub fn encode(alloc: Global, ior: &Ior) -> Result<Vec<u8>, NoMemory>
     Ok(out.done())
 }
 
-/// The last byte of the tap's use, whose first one is 0.
+/// The second byte of the tap's use.
 const USE: u8 = DELIVERY_USE as u8;
 
-/// The last byte of the tap's association tag, whose first one is 0.
+/// The second byte of its association tag.
 const TAG: u8 = ASSOCIATION_TAG as u8;
 
-/// The ConnBinder that is written, up to its transactionId: one tap of id 0, use 0x0016 and association tag 0x0001, with a selector
-/// of type 0x0001.
+/// The ConnBinder up to its transactionId: one tap, selector type 0x0001.
 const BINDER_FRONT: [u8; 10] = [1, 0, 0, 0, USE, 0, TAG, 10, 0, 1];
 
-/// The transactionId by which a module is delivered, by the module's id, 1 to [`module_groups::GREATEST_ID`]: that of the DII that
-/// lists the module, with version and flag 0, so that it stays from generation to generation. (ISO/IEC 13818-6, clause 11.3; that version
-/// and flag are 0 is this project's own rule.) Takes no memory.
+/// The transactionId that delivers a module, 1 to [`module_groups::GREATEST_ID`]: that of its DII
+/// with version and flag 0, so that it stays from generation to generation.
 pub fn delivery_of_module(id: u16) -> u32
     ensures { result ≡ delivery_of_module id }
 {
     DSI_TRANSACTION + 2 * u32::from(group_of(id))
 }
 
-/// Puts the spelling of a reference to an object, 63 bytes: what `encode` gives for the IOR of this kind and location.
-///
-/// The kind has 4 bytes by the standard's profile, the location's key has 4 bytes, and its module is 1 to
-/// [`module_groups::GREATEST_ID`]. After a refusal the writer is as it was.
+/// Puts what `encode` gives for an IOR of this kind and location, each with the sizes it asks for.
+/// `Err` is out of memory.
 pub fn put_reference(out: &mut Writer, kind: &[u8], location: &Location) -> Result<(), NoMemory>
     requires key { length location.now.key ≡ 4 }
     requires listed { (1 ≤ location.now.module) × (location.now.module ≤ GREATEST_ID) }
