@@ -1,8 +1,7 @@
-//! The control messages of an object carousel: the DSI, which names the service gateway, and the DIIs, which list
-//! the modules. They are read by their grammar and written in one spelling.
+//! The control messages of a carousel: the DSI names the service gateway, DIIs list the modules.
 //!
-//! The layouts are those of ISO/IEC 13818-6, clauses 7.2 and 7.3, in the profile of ETSI TR 101 202, clauses 4.6
-//! and 4.7.
+//! The layouts are those of ISO/IEC 13818-6, clauses 7.2 and 7.3, in the profile of ETSI TR 101
+//! 202, clauses 4.6 and 4.7. [`MOST_TOTAL_SIZE`] and [`distance`] are this project's own.
 //!
 //! ```
 //! use dsi_dii::{Control, ControlFault, TransactionId, decode};
@@ -39,17 +38,18 @@ use std::alloc::{AllocError, AllocFailed};
 use thiserror::Error;
 pub use writing::{encode_dii, encode_dsi, spellings_read_back};
 
-/// The most modules of a DII, 139: one section has no room for more.
+/// The most modules of a DII; one section has no room for more.
 pub const MOST_MODULES: usize = GROUP_SIZE as usize;
 
-/// The most bytes that all modules of a carousel have together. This project's own limit.
+/// The most bytes of all modules together.
 pub const MOST_TOTAL_SIZE: u32 = 268_435_456;
 
-/// The number of the last generation that a DII may have: a transactionId has 14 bits for it.
+/// The last generation; a transactionId has 14 bits for it.
 pub const LAST_GENERATION: u64 = 16_383;
 
-/// The transactionId of a control message, 32 bits: who made it (bits 31 and 30), its version (29 to 16), its
-/// identification (15 to 1) and the updated flag (0). (ISO/IEC 13818-6, clause 11.4.1; ETSI TR 101 202, clause 4.6.5.)
+/// The transactionId of a control message: maker (bits 31 and 30), version (29 to 16),
+/// identification (15 to 1), updated flag (0) (ISO/IEC 13818-6, clause 11.4.1; ETSI TR 101 202,
+/// clause 4.6.5).
 #[derive(Clone, Copy, Debug, PartialEq, Eq)]
 pub struct TransactionId(pub u32);
 
@@ -61,9 +61,8 @@ impl TransactionId {
         TransactionId(DSI_TRANSACTION)
     }
 
-    /// That of the DII of a group of modules, 1 to [`module_groups::MOST_GROUPS`], in this generation, 0 to [`LAST_GENERATION`]: the
-    /// generation is its version, the group its identification, and the flag is the generation's last bit, so that it changes with
-    /// each generation.
+    /// That of a group's DII in a generation, 0 to [`LAST_GENERATION`]. The flag is the
+    /// generation's last bit, so it changes with each.
     pub fn dii(generation: u64, group: u16) -> TransactionId
         requires generation { generation ≤ LAST_GENERATION }
         requires group { (1 ≤ group) × (group ≤ MOST_GROUPS) }
@@ -82,7 +81,7 @@ impl TransactionId {
         (self.0 / 65536 % 16384) as u16
     }
 
-    /// The identification, 0 to 32,767: 0 is that of a DSI.
+    /// The identification, 0 to 32,767; a DSI has 0.
     pub fn identification(&self) -> u16
         ensures { result ≡ identification_of self.now.0 }
     {
@@ -90,7 +89,7 @@ impl TransactionId {
     }
 }
 
-/// A DSI (DownloadServerInitiate): where the carousel's service gateway is.
+/// A DSI (DownloadServerInitiate).
 #[derive(Debug, Drop)]
 pub struct Dsi {
     /// The message's transactionId.
@@ -104,20 +103,20 @@ pub struct Dsi {
 pub struct ModuleLine {
     /// The module's id.
     pub id: u16,
-    /// How many bytes the module has.
+    /// The module's bytes.
     pub size: u32,
-    /// The module's version: it changes with the module's bytes.
+    /// It changes with the module's bytes.
     pub version: u8,
-    /// Whether the module is sent compressed: a compressed_module_descriptor stands in its user info.
+    /// Whether its user info has a compressed_module_descriptor.
     pub compressed: bool,
 }
 
-/// A DII (DownloadInfoIndication): modules of the carousel as they are now.
+/// A DII (DownloadInfoIndication).
 #[derive(Debug, Drop)]
 pub struct Dii {
-    /// The downloadId, which the blocks of these modules carry.
+    /// The downloadId, which the modules' blocks carry.
     pub download: u32,
-    /// How many bytes every block but a module's last has.
+    /// The bytes of each block but a module's last.
     pub block_size: u16,
     /// The message's transactionId.
     pub transaction: TransactionId,
@@ -137,7 +136,7 @@ pub enum Control {
 /// Why a control message wasn't read.
 #[derive(Clone, Copy, Debug, PartialEq, Eq, Error)]
 pub enum ControlFault {
-    /// The place, in bytes from the front of the payload, of the first field that breaks its rule or is cut.
+    /// The place, in bytes, of the payload's first field that is cut or breaks its rule.
     #[error("no control message: the field at byte {0} is cut or breaks a rule")]
     NotControl(usize),
     /// There is no memory.
@@ -188,9 +187,8 @@ impl From<AllocError> for DiiFault {
     }
 }
 
-/// How far a version lies ahead of another: `new - old` modulo 16,384. Both are versions of transactionIds, 0 to
-/// 16,383; the sum of the distances of the DIIs that were heard counts the generations past the version's wrap
-/// (this project's own rule). Takes no memory.
+/// How far version `new` is ahead of `old`, modulo 16,384. The sum of the distances counts the
+/// generations past the version's wrap.
 pub fn distance(old: u16, new: u16) -> u16
     requires old { old < 16384 }
     requires new { new < 16384 }

@@ -19,7 +19,7 @@ use ior_tap::{Ior, IorFault};
 use oc_bytes::{Cut, Descriptors, Fields};
 use std::alloc::Global;
 
-/// The fields of a DII before its modules, without those that are passed over.
+/// The fields of a DII before its modules that are used.
 #[derive(Clone, Copy, Debug, PartialEq, Eq)]
 pub struct Head {
     pub download: u32,
@@ -69,7 +69,6 @@ fn pass_taps(fields: &mut Fields, count: u8) -> Result<(), Cut>
     Ok(())
 }
 
-/// The user info of a moduleInfo.
 #[tactic(auto, unfolding(oc_bytes::specs::Grammar::read))]
 fn user_info(info: &[u8]) -> Result<&[u8], Cut>
     ensures { MatchResult result (λ u. front_of controls.info info.now ≡ Some u.now)
@@ -82,7 +81,6 @@ fn user_info(info: &[u8]) -> Result<&[u8], Cut>
     fields.sized8()
 }
 
-/// Whether a whole descriptor of tag 0x09 (compressed_module_descriptor) stands in the user info.
 fn has_compression(user_info: &[u8]) -> bool
     ensures { result ≡ list_any (λ d. d.0 == 0x09) (descriptors_in user_info.now) }
 {
@@ -95,7 +93,6 @@ fn has_compression(user_info: &[u8]) -> bool
     false
 }
 
-/// A module as a DII lists it.
 #[tactic(auto, unfolding(oc_bytes::specs::Grammar::read))]
 fn line(fields: &mut Fields) -> Result<ModuleLine, Cut>
     ensures { Gives {Y = ModuleLine × Cursor} (λ l. (l, fields.new)) place_of result
@@ -154,7 +151,7 @@ fn dii_of(alloc: Global, payload: &[u8]) -> Result<Control, ControlFault>
     }))
 }
 
-/// The private data of a DSI, which end where the fields then stand.
+/// The private data of a DSI; the fields are left at its end.
 #[tactic(auto, unfolding(oc_bytes::specs::Grammar::read, oc_bytes::specs::Cursor::sized_at))]
 fn private_data<'a>(fields: &mut Fields<'a>) -> Result<&'a [u8], Cut>
     ensures exact { Gives {Y = List ℕ × Cursor} (λ x. (x.now, fields.new)) place_of result
@@ -167,7 +164,7 @@ fn private_data<'a>(fields: &mut Fields<'a>) -> Result<&'a [u8], Cut>
     fields.take(usize::from(size))
 }
 
-/// The gateway's IOR inside the private data, which stand at this place of the message.
+/// The IOR in private data at this place of the message.
 fn gateway(alloc: Global, private: &[u8], place: usize) -> Result<Ior, ControlFault>
     requires { place + length private.now ≤ usize.MAX }
     ensures exact { (after : Cursor)
@@ -199,7 +196,6 @@ fn dsi_of(alloc: Global, payload: &[u8]) -> Result<Control, ControlFault>
     }))
 }
 
-/// Whether the messageId is that of a DSI.
 #[tactic(auto, using(crate::proofs::Laws::short_is_other))]
 fn is_dsi(payload: &[u8]) -> bool
     ensures { result ≡ (message_id_of payload.now == 0x1006) }
@@ -210,7 +206,6 @@ fn is_dsi(payload: &[u8]) -> bool
     }
 }
 
-/// A control message as its grammar reads it: the messageId decides.
 fn control(alloc: Global, payload: &[u8]) -> Result<Control, ControlFault>
     ensures exact { Gives view cause result (read payload.now) }
     ensures memory_dsi { IsErrOf result ControlFault.NoMemory
@@ -228,19 +223,16 @@ fn control(alloc: Global, payload: &[u8]) -> Result<Control, ControlFault>
     }
 }
 
-/// Reads a control message from a section's payload. The messageId decides between a DSI and a DII.
+/// Reads a control message from a section's payload.
 ///
-/// `NotControl` comes exactly where a field breaks its rule or is cut, and gives the place of the first such field:
+/// `NotControl` comes at the first field that breaks one of these rules:
+///
 /// - protocolDiscriminator 0x11, dsmccType 0x03, messageId 0x1006 (DSI) or 0x1002 (DII);
-/// - messageLength, at least adaptationLength and at most the number of bytes that follow it;
-/// - every field must lie in the message, and the gateway's IOR in the private data of the DSI.
+/// - messageLength, at least adaptationLength and at most the bytes that follow it;
+/// - every field is in the message, the gateway's IOR in the DSI's private data.
 ///
-/// Reserved bits, the serverId, the windows of a DII, the adaptation, compatibility descriptors and private data
-/// are read as any; bytes past the last field and past the message are passed over. A moduleInfo that doesn't read
-/// is taken as one without user info (this project's own rule).
-///
-/// `NoMemory` comes only of a DSI whose private data, and in them the fields before the gateway's first profile, are
-/// read, and of a DII whose fields before its first module are read, where there is to be a profile or a module.
+/// Other fields may have any value. Bytes after the last field and after the message are ignored. A
+/// moduleInfo that doesn't read counts as one without user info.
 pub fn decode(alloc: Global, payload: &[u8]) -> Result<Control, ControlFault>
     ensures found { IfOk result (λ m. Reads payload.now (view m)) }
     ensures only { (m : Message) → Reads payload.now m → Gives view cause result (Ok m) }

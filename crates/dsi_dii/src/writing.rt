@@ -14,18 +14,17 @@ use ddb_block::header_bytes;
 use oc_bytes::{NoMemory, Writer};
 use std::alloc::Global;
 
-/// The last byte of the use of the blocks' tap, whose first one is 0.
+/// The second byte of the use of the blocks' tap.
 const USE: u8 = BLOCK_USE as u8;
 
-/// The last byte of that tap's association tag, whose first one is 0.
+/// The second byte of its association tag.
 const TAG: u8 = ASSOCIATION_TAG as u8;
 
-/// The moduleInfo that is written: no time-outs, one tap for the blocks, no user info.
+/// The moduleInfo: no time-outs, one tap for the blocks, no user info.
 static MODULE_INFO: [u8; 21] = [
     0xFF, 0xFF, 0xFF, 0xFF, 0xFF, 0xFF, 0xFF, 0xFF, 0, 0, 0, 0, 1, 0, 0, 0, USE, 0, TAG, 0, 0,
 ];
 
-/// The header that all download messages share, without an adaptation.
 fn put_header(writer: &mut Writer, id: u16, transaction: u32, size: u16) -> Result<(), NoMemory>
     ensures bytes { OnOk result (writer.new ≡ writer.old ++ prefix_of id transaction size) }
     ensures fits { transaction < 4294967296 }
@@ -54,7 +53,6 @@ fn put_lines(writer: &mut Writer, lines: &[ModuleLine]) -> Result<(), NoMemory>
     Ok(())
 }
 
-/// The fields of a DII before its modules.
 fn put_head(writer: &mut Writer, download: u32, modules: u16) -> Result<(), NoMemory>
     ensures bytes { OnOk result (writer.new ≡ writer.old ++ dii_head download modules) }
     ensures fits { download < 4294967296 }
@@ -67,10 +65,9 @@ fn put_head(writer: &mut Writer, download: u32, modules: u16) -> Result<(), NoMe
     Ok(())
 }
 
-/// The one spelling of a DII, as the payload of a section: of block size [`BLOCK_SIZE`], with no compressed module.
+/// The one spelling of a DII, as a section's payload.
 ///
-/// `TooMany` comes exactly where there are more than [`MOST_MODULES`] modules. The windows are 0; there are no compatibility
-/// descriptor and no private data; each module's line has 29 bytes.
+/// The windows are 0; there are no descriptors and no private data.
 pub fn encode_dii(alloc: Global, dii: &Dii) -> Result<Vec<u8>, DiiFault>
     requires { IsWrittenDii (view_dii dii.now) }
     ensures spells { MakesList result (dii_spelling (view_dii dii.now)) }
@@ -95,9 +92,10 @@ pub fn encode_dii(alloc: Global, dii: &Dii) -> Result<Vec<u8>, DiiFault>
     Ok(writer.done())
 }
 
-/// The one spelling of a DSI, as the payload of a section. The gateway has the form that `ior_tap::encode` writes.
+/// The one spelling of a DSI, as a section's payload; the gateway is as `ior_tap::encode` asks.
+/// `Err` is out of memory.
 ///
-/// The serverId is 20 bytes 0xFF; there are no compatibility descriptor, no taps, no contexts and no user info.
+/// The serverId is 20 bytes 0xFF; there are no descriptors, taps, contexts or user info.
 pub fn encode_dsi(alloc: Global, dsi: &Dsi) -> Result<Vec<u8>, NoMemory>
     requires { (l : Location) × iors.IsWritten (view_dsi dsi.now).gateway l }
     ensures spells { IfOk result (λ bytes.
@@ -118,7 +116,7 @@ pub fn encode_dsi(alloc: Global, dsi: &Dsi) -> Result<Vec<u8>, NoMemory>
     Ok(writer.done())
 }
 
-/// What is written is read back, and how many bytes it has: laws of the definitions alone. The call does nothing.
+/// What is written is read back, and its size.
 pub fn spellings_read_back()
     ensures dii { DiiSpellingsReadBack }
     ensures dii_size { DiiSpellingsHaveSize }
