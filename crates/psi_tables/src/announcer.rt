@@ -9,7 +9,7 @@ use section_stream::Mux;
 use std::alloc::Global;
 use std::marker::Model;
 
-/// Sends the tables that name a carousel: the PAT on PID 0 and its map table on PID 32, each PID with continuity counters of its own.
+/// Sends the tables that name a carousel: the PAT on PID 0, its map table on PID 32.
 #[derive(Drop)]
 pub struct Announcer {
     carousel: u32,
@@ -34,7 +34,7 @@ impl Model for Announcer {
 }
 
 impl Announcer {
-    /// An announcer of the carousel of this id, whose first packets have the continuity counter 0. It makes both tables here.
+    /// An announcer of the carousel of this id. Its first packets have the continuity counter 0.
     pub fn new(alloc: Global, carousel: u32) -> Result<Announcer, NoMemory>
         ensures { IfOk result (λ a. a ≡ announcer_start carousel) }
     {
@@ -49,10 +49,10 @@ impl Announcer {
         })
     }
 
-    /// Puts the packets of the PAT and then those of the map table after those in `out`: each table is a group of its own on its
-    /// PID.
+    /// Puts the packets of the PAT, then of the map table, into `out`; on its PID each is a group
+    /// of its own.
     ///
-    /// After `NoMemory` `out` may have the packets of the PAT, and nothing more is said of the counters.
+    /// After `NoMemory` `out` may have the packets of the PAT, and the counters are undefined.
     pub fn packets(&mut self, out: &mut Vec<[u8; PACKET_LENGTH]>) -> Result<(), NoMemory>
         ensures packets { OnOk result
             (out.new.items ≡ out.old.items ++ announcer_packets self.old) }
@@ -63,7 +63,6 @@ impl Announcer {
     }
 }
 
-/// Sends a table as a group of its own.
 fn send(mux: &mut Mux, table: &[u8], out: &mut Vec<[u8; PACKET_LENGTH]>) -> Result<(), NoMemory>
     requires { IsSectionLike table.now }
     ensures packets { OnOk result

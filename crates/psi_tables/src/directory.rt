@@ -21,10 +21,10 @@ use oc_bytes::NoMemory;
 use section_stream::PacketDemux;
 use std::alloc::{AllocError, Global};
 
-/// The most PIDs that are followed (this project's own limit).
+/// The most PIDs that are followed.
 pub const MOST_FOLLOWED: usize = 64;
 
-/// The sections of the PAT, and what came on the PIDs that it listed.
+/// The PAT's sections, and what came on the PIDs that it listed.
 #[derive(Drop)]
 pub struct Directory {
     pub alloc: Global,
@@ -36,14 +36,13 @@ pub struct Directory {
     pub followed: Vec<Followed>,
 }
 
-/// A program and its PID: not the line of the network's information, and not the PAT's own PID.
+/// Neither the line of the network's information, nor one with the PAT's own PID.
 fn is_program(line: PatLine) -> bool
     ensures { result ≡ finding.is_program line }
 {
     line.program != 0 && line.pid != 0
 }
 
-/// The place of the section of this version and number.
 fn place_of(sections: &[Pat], version: u8, number: u8) -> Option<usize>
     ensures { result ≡ position_from (λ p. (p.version == version) && (p.number == number)) 0
         sections.now }
@@ -53,7 +52,7 @@ fn place_of(sections: &[Pat], version: u8, number: u8) -> Option<usize>
         .position(|kept| kept.version == version && kept.number == number)
 }
 
-/// Puts a section in the place of the one before of its version and number, or after all.
+/// Replaces the section of this version and number, or adds one.
 fn note(sections: &mut Vec<Pat>, pat: Pat) -> Result<(), AllocError>
     ensures { OnOk result
         (map view_pat sections.new.items
@@ -67,21 +66,20 @@ fn note(sections: &mut Vec<Pat>, pat: Pat) -> Result<(), AllocError>
     Ok(())
 }
 
-/// Whether a PID is followed.
 fn is_followed(followed: &[Followed], pid: u16) -> bool
     ensures { result ≡ list_any (λ f. f.pid == pid) followed.now }
 {
     followed.iter().any(|one| one.pid == pid)
 }
 
-/// Whether a line's PID is followed from now on: it is a program's, there is room, and it isn't followed yet.
+/// Whether a line's PID is to be followed from now on.
 fn is_wanted(followed: &[Followed], line: PatLine) -> bool
     ensures { result ≡ becomes_followed followed.now line }
 {
     is_program(line) && followed.len() < MOST_FOLLOWED && !is_followed(followed, line.pid)
 }
 
-/// Follows the PID of a line from the next packet on, where it is wanted.
+/// Follows a wanted line's PID from the next packet on.
 fn follow(alloc: Global, followed: &mut Vec<Followed>, line: PatLine) -> Result<(), NoMemory>
     ensures { OnOk result ((carousel : ℕ) (packets : List Bytes) (before : List (ℕ × ℕ))
         → FollowsEach carousel packets (map view_followed followed.old.items) (choose before)
@@ -100,7 +98,6 @@ fn follow(alloc: Global, followed: &mut Vec<Followed>, line: PatLine) -> Result<
     Ok(())
 }
 
-/// Follows the PIDs of lines.
 fn follow_all(
     alloc: Global,
     followed: &mut Vec<Followed>,
@@ -117,7 +114,7 @@ fn follow_all(
     Ok(())
 }
 
-/// Takes a packet of the PID `pid` on each followed PID. Answers whether it completed a section on one.
+/// Whether the packet completed a section on a followed PID.
 fn feed_all(
     alloc: Global,
     carousel: u32,
@@ -139,7 +136,6 @@ fn feed_all(
     Ok(completed)
 }
 
-/// The section of this version and number.
 fn section_of(sections: &[Pat], version: u8, number: u8) -> Option<&Pat>
     ensures { option_map (λ p. p.now) result
         ≡ find (λ p. (p.version == version) && (p.number == number)) sections.now }
@@ -149,7 +145,6 @@ fn section_of(sections: &[Pat], version: u8, number: u8) -> Option<&Pat>
         .find(|kept| kept.version == version && kept.number == number)
 }
 
-/// The followed PID.
 fn followed_on(followed: &[Followed], pid: u16) -> Option<&Followed>
     ensures { option_map (λ f. f.now) result ≡ find (λ f. f.pid == pid) followed.now }
 {
@@ -166,7 +161,7 @@ fn named_by_line(followed: &[Followed], line: PatLine) -> Option<u16>
     }
 }
 
-/// The first stream that the map tables of lines name.
+/// The first stream that the lines' map tables name.
 fn named_by_lines(followed: &[Followed], lines: &[PatLine]) -> Option<u16>
     ensures { result ≡ finding.first_named (named_by (map view_followed followed.now)) lines.now }
 {
@@ -182,7 +177,7 @@ fn named_by_lines(followed: &[Followed], lines: &[PatLine]) -> Option<u16>
 }
 
 impl Directory {
-    /// Takes a section that came on PID 0. One that is no PAT section changes nothing.
+    /// Takes a section of PID 0, and ignores one that isn't of the PAT. `Err` is out of memory.
     pub fn take(&mut self, section: &[u8]) -> Result<(), NoMemory>
         ensures keeps { OnOk result ((packets : List Bytes) (pats : List PatFields)
             (before : List (ℕ × ℕ))
@@ -201,7 +196,7 @@ impl Directory {
         note(&mut self.sections, pat)
     }
 
-    /// Takes the sections that came on PID 0, in order.
+    /// Takes the sections of PID 0, in order. `Err` is out of memory.
     pub fn take_all(&mut self, sections: &[Vec<u8>]) -> Result<(), NoMemory>
         ensures keeps { OnOk result ((packets : List Bytes) (pats : List PatFields)
             (before : List (ℕ × ℕ))
@@ -217,7 +212,7 @@ impl Directory {
         Ok(())
     }
 
-    /// Takes a packet of the PID `pid` where it is followed. Answers whether it completed a section there.
+    /// Whether a packet completed a section on a followed PID.
     pub fn feed(&mut self, pid: u16, packet: &[u8; PACKET_LENGTH]) -> Result<bool, NoMemory>
         requires { pid_of packet.now ≡ Some pid }
         ensures followed { IfOk result (λ completed.
@@ -248,7 +243,6 @@ impl Directory {
         }
     }
 
-    /// The first stream that the lines of one section name.
     fn named_in_section(&self, version: u8, number: u8) -> Option<u16>
         ensures { result ≡ finding.first_named (named_by (view_directory self.now).followed)
             (lines_in_section (section_kept (view_directory self.now).sections version number)) }
@@ -259,7 +253,6 @@ impl Directory {
         }
     }
 
-    /// The first stream that the lines of the table of this version name.
     fn first_named(&self, version: u8) -> Option<u16>
         ensures { result ≡ finding.first_named (named_by (view_directory self.now).followed)
             (finding.lines_of_sections (section_kept (view_directory self.now).sections version)

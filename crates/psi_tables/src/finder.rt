@@ -21,11 +21,11 @@ pub enum Find {
     NoPat,
     /// No map table of a program in force names the carousel.
     NotNamed,
-    /// The PID of the first stream that names the carousel, by line of the PAT and then in the map table.
+    /// The PID of the first stream that names it, by the PAT's lines and then the map table's.
     At(u16),
 }
 
-/// Finds the PID of a carousel by its id, through the PAT and the map tables that it lists.
+/// Finds the PID of a carousel through the PAT and the map tables that it lists.
 #[derive(Drop)]
 pub struct Finder {
     tables: PacketDemux,
@@ -43,7 +43,7 @@ impl Model for Finder {
 }
 
 impl Finder {
-    /// A finder of the carousel of this id that has had no packet.
+    /// A finder of the carousel of this id, before the first packet. `Err` is out of memory.
     pub fn new(alloc: Global, carousel: u32) -> Result<Finder, NoMemory>
         ensures carousel { IfOk result (λ f. f.directory.carousel ≡ carousel) }
         ensures stands { IfOk result (λ f. StandsFor f []) }
@@ -62,13 +62,11 @@ impl Finder {
         })
     }
 
-    /// Takes one packet of the stream, of any PID.
+    /// Takes one packet of any PID.
     ///
-    /// The finder follows PID 0, and each PID that a PAT section lists as a program's, from the packet after the one that completed the first
-    /// such section on; the first 64 such PIDs are followed.
-    ///
-    /// `NoMemory` comes only of a packet with a payload on PID 0 or on a followed PID. After it the finder is spent: each later call answers
-    /// `NoMemory`, and nothing more is said of what it finds.
+    /// The finder follows PID 0, and the first 64 PIDs that PAT sections list for programs, each
+    /// from the packet after its section's last. After `NoMemory` it is spent: later calls answer
+    /// `NoMemory`, and what it finds is undefined.
     pub fn feed(&mut self, packet: &[u8; PACKET_LENGTH]) -> Result<(), NoMemory>
         ensures stands { OnOk result ((packets : List Bytes)
             → StandsFor self.old packets
@@ -90,7 +88,6 @@ impl Finder {
         Ok(())
     }
 
-    /// Takes one packet on each PID.
     fn hear(&mut self, packet: &[u8; PACKET_LENGTH]) -> Result<(), NoMemory>
         ensures holds { OnOk result ((packets : List Bytes)
             → Holds self.old packets
@@ -111,7 +108,7 @@ impl Finder {
         Ok(())
     }
 
-    /// Takes a packet of the PID `pid` where it is the PAT's. Answers whether it completed a section there.
+    /// Whether a packet completed a section of the PAT.
     fn hear_tables(&mut self, pid: u16, packet: &[u8; PACKET_LENGTH]) -> Result<bool, NoMemory>
         requires { receiving.pid_of packet.now ≡ Some pid }
         ensures heard { IfOk result (λ listed. TablesHeard packet.now listed self.old self.new) }
@@ -126,7 +123,7 @@ impl Finder {
         Ok(!sections.is_empty())
     }
 
-    /// Where the carousel is: what is kept may have changed since it was found last where a section was completed.
+    /// Searches again only if a section was completed.
     fn answer(&self, completed: bool, listed: bool) -> Find
         ensures { result ≡ (if completed
             || listed then found_by self.now.directory else self.now.found) }

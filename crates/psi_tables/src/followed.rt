@@ -20,7 +20,7 @@ use std::alloc::{AllocError, Global};
 #[derive(Clone, Copy, Debug)]
 pub struct Program {
     pub program: u16,
-    /// The PID of the first stream that the program's last map table says to carry the carousel.
+    /// The PID that its last map table names first for the carousel.
     pub named: Option<u16>,
 }
 
@@ -33,14 +33,12 @@ pub struct Followed {
     pub programs: Vec<Program>,
 }
 
-/// Whether a stream names the carousel.
 fn is_named(carousels: &[u32], carousel: u32) -> bool
     ensures { result ≡ finding.is_in carousel carousels.now }
 {
     carousels.iter().any(|named| *named == carousel)
 }
 
-/// The first stream that names the carousel.
 fn line_naming(lines: &[PmtLine], carousel: u32) -> Option<&PmtLine>
     ensures { option_map (λ l. l.now) result
         ≡ find (λ l. finding.is_in carousel l.carousels.items) lines.now }
@@ -60,14 +58,13 @@ fn named_in(pmt: &Pmt, carousel: u32) -> Option<u16>
     }
 }
 
-/// The place of a program's entry.
 fn place_of(programs: &[Program], program: u16) -> Option<usize>
     ensures { result ≡ position_from (λ e. e.program == program) 0 programs.now }
 {
     programs.iter().position(|entry| entry.program == program)
 }
 
-/// Puts a program's entry in the place of the one before, or after all.
+/// Replaces a program's entry, or adds one.
 fn note(programs: &mut Vec<Program>, entry: Program) -> Result<(), AllocError>
     ensures { OnOk result
         (programs.new.items ≡ put (λ e. e.program == entry.program) entry programs.old.items) }
@@ -79,7 +76,6 @@ fn note(programs: &mut Vec<Program>, entry: Program) -> Result<(), AllocError>
     Ok(())
 }
 
-/// The entry of a program.
 fn entry_of(programs: &[Program], program: u16) -> Option<&Program>
     ensures { option_map (λ e. e.now) result ≡ find (λ e. e.program == program) programs.now }
 {
@@ -97,7 +93,7 @@ pub fn named_for_program(programs: &[Program], program: u16) -> Option<u16>
 }
 
 impl Followed {
-    /// Takes a section that came on the PID. One that is no map table changes nothing.
+    /// Ignores a section that is no map table.
     fn take(&mut self, alloc: Global, carousel: u32, section: &[u8]) -> Result<(), NoMemory>
         ensures programs { OnOk result
             (self.new.programs.items
@@ -117,7 +113,6 @@ impl Followed {
         note(&mut self.programs, entry)
     }
 
-    /// Takes the sections that came on the PID, in order.
     fn take_all(
         &mut self,
         alloc: Global,
@@ -136,7 +131,7 @@ impl Followed {
         Ok(())
     }
 
-    /// Takes a packet of the PID `pid`. Answers whether it completed a section on the followed PID.
+    /// Whether a packet completed a section on the PID. `Err` is out of memory.
     pub fn feed(
         &mut self,
         alloc: Global,

@@ -9,7 +9,8 @@ use section_crc::crc;
 /// The most bytes of a table's section after its section_length.
 pub const MOST_LENGTH: usize = 1021;
 
-/// The first field before the body that breaks its rule or is cut, of a section of table `id`. The CRC isn't looked at.
+/// The first field before the body that is cut or breaks its rule, in a section of table `id`. It
+/// doesn't check the CRC.
 pub fn check_header(id: u8, bytes: &[u8]) -> Result<(), Cut>
     ensures { MatchResult result (λ _. (header_fault id bytes.now ≡ None) × (12 ≤ length bytes.now))
         (λ cut. header_fault id bytes.now ≡ Some cut.0) }
@@ -32,7 +33,7 @@ pub fn check_header(id: u8, bytes: &[u8]) -> Result<(), Cut>
     Ok(())
 }
 
-/// The length field is the number of the bytes after it, and within its limit.
+/// The length field fits the bytes and its limit.
 fn is_counted(bytes: &[u8]) -> bool
     requires { 3 ≤ length bytes.now }
     ensures { result ≡ frames.is_counted bytes.now }
@@ -41,7 +42,7 @@ fn is_counted(bytes: &[u8]) -> bool
     length <= MOST_LENGTH && bytes.len() == length + 3
 }
 
-/// The CRC over all of the bytes is that of a section that wasn't damaged; else its place.
+/// The CRC's place if it is wrong.
 pub fn check_crc(bytes: &[u8]) -> Result<(), Cut>
     requires { 12 ≤ length bytes.now }
     ensures { MatchResult result (λ _. frames.crc_fault bytes.now ≡ None) (λ cut.

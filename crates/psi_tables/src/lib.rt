@@ -1,5 +1,6 @@
-//! Program specific information (ISO/IEC 13818-1, 2.4.4): the program association table, the map tables of programs, and the
-//! PID of the carousel that they name.
+//! Program specific information (ISO/IEC 13818-1, 2.4.4): the PAT, map tables, and the carousel's
+//! PID that they name. The numbers in written tables, and the limit of followed PIDs, are this
+//! project's own.
 //!
 //! ```
 //! use psi_tables::{Announcer, Find, Finder};

@@ -10,7 +10,6 @@ use long_section::{Frame, frame_of};
 use oc_bytes::Cut;
 use std::alloc::{AllocError, Global};
 
-/// The line that these four bytes are.
 fn line_from(a: u8, b: u8, c: u8, d: u8) -> PatLine
     ensures { result ≡ line_of a b c d }
 {
@@ -20,7 +19,6 @@ fn line_from(a: u8, b: u8, c: u8, d: u8) -> PatLine
     }
 }
 
-/// The lines that stand one after another in a body.
 fn lines_from(alloc: Global, body: &[u8]) -> Result<Vec<PatLine>, AllocError>
     ensures { MakesList result (lines_in body.now) }
 {
@@ -33,7 +31,6 @@ fn lines_from(alloc: Global, body: &[u8]) -> Result<Vec<PatLine>, AllocError>
     Ok(lines)
 }
 
-/// The frame of a section of the PAT whose bytes read, or the place of the first fault.
 fn checked(bytes: &[u8]) -> Result<Frame<'_>, Cut>
     ensures { MatchResult result
         (λ f. (pat_fault bytes.now ≡ None)
@@ -50,12 +47,16 @@ fn checked(bytes: &[u8]) -> Result<Frame<'_>, Cut>
     Ok(frame)
 }
 
-/// Reads a section of the program association table, which has to be all of the bytes (ISO/IEC 13818-1, 2.4.4.3).
+/// Reads a section of the PAT (ISO/IEC 13818-1, 2.4.4.3), which is all of the bytes.
 ///
-/// `NotPsi` comes exactly where a field breaks its rule or is cut, and gives the place of the first such field: table_id 0x00 (place 0);
-/// section_syntax_indicator 1 and section_length, the number of the bytes after it and at most 1,021 (both place 1); current_next_indicator 1
-/// (place 5); a line that doesn't fit, at its first byte; a wrong CRC, at its own place. The private bit, reserved bits,
-/// transport_stream_id, version_number and the section's numbers are read as any. `NoMemory` comes only of bytes that read.
+/// `NotPsi` has the place of the first field that is cut or breaks its rule:
+///
+/// - 0: table_id 0x00;
+/// - 1: section_syntax_indicator 1; section_length, the bytes after it, at most 1,021;
+/// - 5: current_next_indicator 1;
+/// - a line that doesn't fit, at its first byte; a wrong CRC, at its own.
+///
+/// Other fields may have any value.
 pub fn decode_pat(alloc: Global, bytes: &[u8]) -> Result<Pat, PsiFault>
     ensures found { IfOk result (λ p. ReadsPat bytes.now (view_pat p)) }
     ensures only { (p : PatFields) → ReadsPat bytes.now p → Gives view_pat cause result (Ok p) }

@@ -14,13 +14,13 @@ use long_section::{Frame, frame_of};
 use oc_bytes::{Cut, Descriptor, Descriptors, length_field};
 use std::alloc::{AllocError, Global};
 
-/// The type of streams that carry DSM-CC messages (ISO/IEC 13818-6, clause 9.2.3): user-to-network messages, among them object carousels.
+/// The type of streams with user-to-network messages, carousels among them (ISO/IEC 13818-6, clause
+/// 9.2.3).
 const DSM_CC: u8 = STREAM_TYPE;
 
-/// The tag of a carousel identifier descriptor (ISO/IEC 13818-6, clause 11.5.1).
+/// A carousel identifier descriptor (ISO/IEC 13818-6, clause 11.5.1).
 const CAROUSEL_IDENTIFIER: u8 = 0x13;
 
-/// A stream of a program, lent.
 #[derive(Clone, Copy, Debug)]
 struct Stream<'a> {
     kind: u8,
@@ -28,7 +28,7 @@ struct Stream<'a> {
     info: &'a [u8],
 }
 
-/// The stream that stands whole at the front, and what follows it.
+/// The whole stream at the front, and the bytes after it.
 fn next_stream(bytes: &[u8]) -> Option<(Stream<'_>, &[u8])>
     ensures { option_map (λ x. (inner.view_stream x.0, x.1.now)) result
         ≡ pmts.next_stream bytes.now }
@@ -48,7 +48,6 @@ fn next_stream(bytes: &[u8]) -> Option<(Stream<'_>, &[u8])>
     Some((stream, &following[size..]))
 }
 
-/// The carousel that a descriptor names.
 fn carousel_named(descriptor: Descriptor<'_>) -> Option<u32>
     ensures { result ≡ carousel_of (descriptor.entry.tag, descriptor.entry.bytes.now) }
 {
@@ -60,7 +59,6 @@ fn carousel_named(descriptor: Descriptor<'_>) -> Option<u32>
     }
 }
 
-/// The carousels that a stream's descriptors name.
 fn carousels_named(alloc: Global, info: &[u8]) -> Result<Vec<u32>, AllocError>
     ensures { MakesList result (carousels_in info.now) }
 {
@@ -74,7 +72,7 @@ fn carousels_named(alloc: Global, info: &[u8]) -> Result<Vec<u32>, AllocError>
     Ok(carousels)
 }
 
-/// What is left after the last stream that stands whole.
+/// The bytes after the last whole stream.
 fn left_after_streams(bytes: &[u8]) -> &[u8]
     ensures left { result.now ≡ (streams_run bytes.now).1 }
     ensures within { length result.now ≤ length bytes.now }
@@ -86,7 +84,6 @@ fn left_after_streams(bytes: &[u8]) -> &[u8]
     rest
 }
 
-/// The streams of type 0x0B.
 fn lines_from(alloc: Global, bytes: &[u8]) -> Result<Vec<PmtLine>, AllocError>
     ensures { IfOk result (λ v. map view_line v.items ≡ lines_of (streams_run bytes.now).0) }
 {
@@ -105,7 +102,6 @@ fn lines_from(alloc: Global, bytes: &[u8]) -> Result<Vec<PmtLine>, AllocError>
     Ok(lines)
 }
 
-/// The bytes of the streams, or the place of the first field of the body that doesn't fit.
 fn streams_of(body: &[u8]) -> Result<&[u8], Cut>
     ensures { MatchResult result
         (λ x. (body_fault body.now ≡ None) × (x.now ≡ stream_bytes body.now))
@@ -130,7 +126,6 @@ fn streams_of(body: &[u8]) -> Result<&[u8], Cut>
     Err(Cut(if left < 5 { place } else { place + 5 }))
 }
 
-/// The frame of a section of a PMT whose bytes read with the bytes of its streams, or the place of the first fault.
 fn checked(bytes: &[u8]) -> Result<(Frame<'_>, &[u8]), Cut>
     ensures { MatchResult result
         (λ x.
@@ -146,14 +141,18 @@ fn checked(bytes: &[u8]) -> Result<(Frame<'_>, &[u8]), Cut>
     Ok((frame, streams))
 }
 
-/// Reads the map table of a program, which has to be all of the bytes (ISO/IEC 13818-1, 2.4.4.8).
+/// Reads a program's map table (ISO/IEC 13818-1, 2.4.4.8), which is all of the bytes.
 ///
-/// `NotPsi` comes exactly where a field breaks its rule or is cut, and gives the place of the first such field: table_id 0x02 (place 0);
-/// section_syntax_indicator 1 and section_length, the number of the bytes after it and at most 1,021 (both place 1); current_next_indicator 1
-/// (place 5); the program's descriptors, a stream's five bytes or a stream's descriptors that don't fit, at their first byte; a wrong CRC, at
-/// its own place. The private bit, reserved bits, version_number, the section's numbers, the PID of the clock and the program's descriptors are
-/// read as any. Of a stream of type 0x0B each whole descriptor of tag 0x13 with at least 4 bytes names the carousel whose id it begins with;
-/// a descriptor that runs past the end of its stream's descriptors is passed over. `NoMemory` comes only of bytes that read.
+/// `NotPsi` has the place of the first field that is cut or breaks its rule:
+///
+/// - 0: table_id 0x02;
+/// - 1: section_syntax_indicator 1; section_length, the bytes after it, at most 1,021;
+/// - 5: current_next_indicator 1;
+/// - the program's descriptors, a stream's five bytes or its descriptors that don't fit, at their
+/// first byte; a wrong CRC, at its own.
+///
+/// Other fields may have any value. In a stream of type 0x0B each whole descriptor of tag 0x13
+/// begins with a carousel's id; one of under 4 bytes, or that runs past the end, is ignored.
 pub fn decode_pmt(alloc: Global, bytes: &[u8]) -> Result<Pmt, PsiFault>
     ensures found { IfOk result (λ p. ReadsPmt bytes.now (view_pmt p)) }
     ensures only { (p : PmtFields) → ReadsPmt bytes.now p → Gives view_pmt cause result (Ok p) }

@@ -4,7 +4,7 @@ ghost use Rattle.psi_tables.specs.Receiving as receiving;
 use carousel_profile::PACKET_LENGTH;
 use ts_packet::parse;
 
-/// The PID of a packet that has a payload. It takes no memory.
+/// The PID of a packet with a payload.
 pub fn pid_of(packet: &[u8; PACKET_LENGTH]) -> Option<u16>
     ensures { result ≡ receiving.pid_of packet.now }
 {

@@ -4,12 +4,12 @@ use oc_bytes::Cut;
 use std::alloc::AllocError;
 use thiserror::Error;
 
-/// A line of a PAT: a program, and where its map table is sent.
+/// A program, and where its map table is sent.
 #[derive(Clone, Copy, Debug, PartialEq, Eq)]
 pub struct PatLine {
-    /// program_number, any number of 16 bits. The line of program 0 gives the PID of the network's information.
+    /// program_number; program 0 gives the PID of the network's information.
     pub program: u16,
-    /// The PID of the program's map table, 0 to 8,191.
+    /// The map table's PID, 0 to 8,191.
     pub pid: u16,
 }
 
@@ -22,16 +22,16 @@ pub struct Pat {
     pub version: u8,
     /// section_number: which part of the table this is.
     pub number: u8,
-    /// The lines in their order, at most 253.
+    /// At most 253 lines, in order.
     pub lines: Vec<PatLine>,
 }
 
-/// A stream of type 0x0B of a program: one that carries DSM-CC messages (ISO/IEC 13818-6).
+/// A stream of type 0x0B: DSM-CC messages (ISO/IEC 13818-6).
 #[derive(Debug, Drop)]
 pub struct PmtLine {
     /// The stream's PID, 0 to 8,191.
     pub pid: u16,
-    /// The carousel ids that the stream's carousel identifier descriptors name, in their order.
+    /// The ids in its carousel identifier descriptors, in order.
     pub carousels: Vec<u32>,
 }
 
@@ -40,15 +40,14 @@ pub struct PmtLine {
 pub struct Pmt {
     /// program_number.
     pub program: u16,
-    /// The streams of type 0x0B in their order. Streams of other types are left out.
+    /// The streams of type 0x0B, in order; no others.
     pub lines: Vec<PmtLine>,
 }
 
 /// Why reading gave no table.
 #[derive(Clone, Copy, Debug, PartialEq, Eq, Error)]
 pub enum PsiFault {
-    /// The bytes are no section of the table: the place of the first field that breaks its rule or is cut, counted in bytes
-    /// from the first one on.
+    /// The place, in bytes, of the first field that is cut or breaks its rule.
     #[error("no section of the table: the field at byte {0} is cut or breaks a rule")]
     NotPsi(usize),
     /// There is no memory.

@@ -11,14 +11,13 @@ use long_section::{Header, write_frame};
 use oc_bytes::NoMemory;
 use std::alloc::Global;
 
-/// The type of the carousel's stream.
 const KIND: u8 = STREAM_TYPE;
 
-/// The component tag of the carousel's stream.
 const TAG: u8 = COMPONENT_TAG;
 
-/// The one section of a written table: extension 1, which is both [`TRANSPORT_STREAM`](carousel_profile::TRANSPORT_STREAM) and
-/// [`PROGRAM`](carousel_profile::PROGRAM), version 0, section 0 of 0.
+/// One section of version 0. The extension 1 is
+/// [`TRANSPORT_STREAM`](carousel_profile::TRANSPORT_STREAM) and
+/// [`PROGRAM`](carousel_profile::PROGRAM).
 fn written_table(alloc: Global, id: u8, body: &[u8]) -> Result<Vec<u8>, NoMemory>
     requires { length body.now ≤ 1012 }
     ensures { MakesList result (spelling id
@@ -33,9 +32,8 @@ fn written_table(alloc: Global, id: u8, body: &[u8]) -> Result<Vec<u8>, NoMemory
     write_frame(alloc, id, &header, &[], body)
 }
 
-/// The program association table that is sent with a carousel: one section of 16 bytes, version 0, that lists program 1 with its map table
-/// on PID 32 (ISO/IEC 13818-1, 2.4.4.3; the numbers are this project's own). It reads as that table. `NoMemory` comes where its bytes find
-/// no memory.
+/// The PAT that is sent with a carousel (ISO/IEC 13818-1, 2.4.4.3). Its 16 bytes list program 1
+/// with its map table on PID 32. `Err` is out of memory.
 pub fn written_pat(alloc: Global) -> Result<Vec<u8>, NoMemory>
     ensures spells { MakesList result pat_spelling }
     ensures reads { IfOk result (λ v. ReadsPat v.items pat_value) }
@@ -45,9 +43,11 @@ pub fn written_pat(alloc: Global) -> Result<Vec<u8>, NoMemory>
     written_table(alloc, 0x00, &[0x00, 0x01, 0xE0, 0x20])
 }
 
-/// The map table of program 1 that is sent with the carousel of this id, any number of 32 bits: one section of 31 bytes, version 0, with no
-/// clock and one stream of type 0x0B on PID 256, whose descriptors name the carousel and the component tag 0x01 (ISO/IEC 13818-1, 2.4.4.8;
-/// the numbers are this project's own). It reads as that table. `NoMemory` comes where its bytes find no memory.
+/// The map table of program 1 for the carousel of this id (ISO/IEC 13818-1, 2.4.4.8). `Err` is out
+/// of memory.
+///
+/// Its 31 bytes have no clock and one stream, of type 0x0B on PID 256. The descriptors name the
+/// carousel and the component tag 0x01.
 pub fn written_pmt(alloc: Global, carousel: u32) -> Result<Vec<u8>, NoMemory>
     ensures spells { MakesList result (pmt_spelling carousel) }
     ensures reads { IfOk result (λ v. ReadsPmt v.items (pmt_value carousel)) }
