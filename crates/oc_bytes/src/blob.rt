@@ -6,8 +6,7 @@ use std::alloc::Global;
 use std::marker::Model;
 use std::sync::Arc;
 
-/// The numbers of a slice of bytes are below 256. Nothing is done: the slice's type says so, but no contract of those who
-/// lend bytes.
+/// Any slice of bytes has numbers below 256: its type says so, its lender's contract may not.
 pub fn are_bytes(bytes: &[u8])
     ensures { IsBytes bytes.now }
 {}
@@ -28,7 +27,7 @@ impl Model for Blob {
 }
 
 impl Blob {
-    /// Shares these bytes from now on, without a copy of them.
+    /// Shares these bytes without a copy. `Err` is out of memory.
     pub fn new(alloc: Global, bytes: Vec<u8>) -> Result<Blob, NoMemory>
         ensures { IfOk result (λ b. b ≡ bytes.items) }
     {
@@ -36,7 +35,7 @@ impl Blob {
         Ok(Blob { bytes })
     }
 
-    /// One owner more of the same bytes, which aren't copied.
+    /// One more owner of the same bytes. `Err` is out of memory.
     pub fn share(&self) -> Result<Blob, NoMemory>
         ensures { IfOk result (λ b. b ≡ self.now) }
     {

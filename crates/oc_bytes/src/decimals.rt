@@ -1,11 +1,11 @@
-//! Numbers in decimal digits, as words of commands and of scripts write them. The form is this project's own.
+//! Decimal numbers as commands and scripts write them.
 
 ghost use Rattle.std.specs.Prelude.{◌≡◌, ◌≤◌, ◌<◌, ◌^◌, true, IfSome, SomeIff};
 ghost use Rattle.std.specs.List.{list_all};
 ghost use Rattle.oc_bytes.specs.Decimals as decimals;
 
-/// The number that a word spells, where it is `least` to `greatest`: decimal digits without a sign and without a leading zero,
-/// `0` itself excepted. It asks for no memory.
+/// The number, `least` to `greatest`, that a word spells: digits without sign and leading zero. It
+/// takes no memory.
 pub fn decimal(word: &[u8], least: u32, greatest: u32) -> Option<u32>
     ensures value { result ≡ decimals.decimal_in least greatest word.now }
     ensures least { IfSome result (λ n. least ≤ n) }
@@ -27,7 +27,6 @@ pub fn decimal(word: &[u8], least: u32, greatest: u32) -> Option<u32>
     }
 }
 
-/// The number that decimal digits spell, where it fits.
 fn value_of(digits: &[u8]) -> Option<u32>
     requires { decimals.is_decimal digits.now ≡ true }
     ensures { SomeIff result (decimals.decimal_value digits.now < 2 ^ 32)
@@ -39,7 +38,7 @@ fn value_of(digits: &[u8]) -> Option<u32>
     }
 }
 
-/// Whether the text is decimal digits without a leading zero, or `0`.
+/// Whether it is digits without a leading zero, or `0`.
 fn is_decimal(text: &[u8]) -> bool
     ensures { result ≡ decimals.is_decimal text.now }
 {

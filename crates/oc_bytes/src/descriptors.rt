@@ -1,4 +1,4 @@
-//! Descriptors (ISO/IEC 13818-1, 2.6), as they stand in the loops of tables and of user info.
+//! Descriptors (ISO/IEC 13818-1, 2.6) in tables and user info.
 
 ghost use Rattle.std.specs.Prelude.{◌≡◌};
 ghost use Rattle.std.specs.Option.{option_map};
@@ -9,14 +9,14 @@ use std::marker::Model;
 /// A descriptor, lent.
 #[derive(Clone, Copy, Debug)]
 pub struct Descriptor<'a> {
-    /// descriptor_tag: what kind it is.
+    /// descriptor_tag.
     pub tag: u8,
     /// The bytes that its length counts, at most 255.
     pub bytes: &'a [u8],
 }
 
-/// The descriptors that stand whole one after another at the front of bytes, each of which `next` lends. One that runs past
-/// the end is passed over with what follows it, and so is a byte alone at the end. It takes no memory.
+/// The whole descriptors at the front of bytes, which `next` lends in order. It ends at one that
+/// runs past the end, or at a single byte. It takes no memory.
 #[derive(Debug, Drop)]
 pub struct Descriptors<'a> {
     rest: &'a [u8],
@@ -34,7 +34,7 @@ impl<'a> Model for Descriptors<'a> {
 impl<'a> Descriptors<'a> {
     ghost use Rattle.oc_bytes.specs.Descriptors.{descriptors_in};
 
-    /// Stands before the first descriptor of these bytes.
+    /// Begins before the first descriptor of these bytes.
     pub fn new(bytes: &'a [u8]) -> Descriptors<'a>
         ensures { result ≡ descriptors_in bytes.now }
     {
@@ -58,7 +58,6 @@ impl<'a> Iterator for Descriptors<'a> {
     }
 }
 
-/// The descriptor that stands whole at the front, and what follows it.
 fn first(bytes: &[u8]) -> Option<(Descriptor<'_>, &[u8])>
     ensures { option_map (λ x. ((x.0.tag, x.0.bytes.now), x.1.now)) result
         ≡ descriptors.next_descriptor bytes.now }

@@ -6,15 +6,15 @@ use byteorder::{BigEndian, ByteOrder};
 use std::marker::Model;
 use thiserror::Error;
 
-/// The field that begins at this place is cut, or breaks its rule. Places count bytes from the front of the message.
+/// The field at this place is cut or breaks its rule. Places count bytes from the message's front.
 #[derive(Clone, Copy, Debug, PartialEq, Eq, Error)]
 #[error("the field at byte {0} is cut or breaks its rule")]
 pub struct Cut(pub usize);
 
-/// The bytes of a message, read field by field from the front.
+/// The bytes of a message, read field by field. Numbers are big-endian (ISO/IEC 13818-1, 13818-6).
 ///
-/// Numbers are big-endian, as ISO/IEC 13818-1 and 13818-6 send them. A call answers [`Cut`] exactly where its field is
-/// cut, or isn't the value that it has to be, and then leaves the place where it was.
+/// A call answers [`Cut`] if its field is cut or has another value than it must, and then stays at
+/// its place.
 #[derive(Drop)]
 pub struct Fields<'a> {
     bytes: &'a [u8],
@@ -35,14 +35,14 @@ impl<'a> Model for Fields<'a> {
 impl<'a> Fields<'a> {
     ghost use Rattle.oc_bytes.specs.Cause.{place_of};
 
-    /// Stands before the first of these bytes.
+    /// Begins before the first of these bytes.
     pub fn new(bytes: &'a [u8]) -> Fields<'a>
         ensures { result ≡ from_start bytes.now }
     {
         Fields { bytes, place: 0 }
     }
 
-    /// How many bytes were read, which is the offset of the next field.
+    /// How many bytes were read: the offset of the next field.
     pub fn place(&self) -> usize
         ensures { result ≡ self.now.place }
     {
@@ -56,7 +56,7 @@ impl<'a> Fields<'a> {
         &self.bytes[self.place..]
     }
 
-    /// The next n bytes, lent and not copied.
+    /// The next n bytes, lent.
     pub fn take(&mut self, n: usize) -> Result<&'a [u8], Cut>
         ensures bytes { Steps (λ x. x.now) place_of result self.old self.new (bytes_at n self.old) }
         ensures count { IfOk result (λ x. length x.now ≡ n) }
@@ -70,7 +70,7 @@ impl<'a> Fields<'a> {
         Ok(&bytes[place..place + n])
     }
 
-    /// The next n bytes as a message of their own, whose places go on counting from here.
+    /// The next n bytes as a message whose places count on from here.
     pub fn part(&mut self, n: usize) -> Result<Fields<'a>, Cut>
         ensures { Steps (λ f. f) place_of result self.old self.new (part_at n self.old) }
     {
@@ -86,7 +86,7 @@ impl<'a> Fields<'a> {
         })
     }
 
-    /// The number in the next byte.
+    /// The next byte.
     #[tactic(auto, using(crate::proofs::Reading::read_one))]
     pub fn u8(&mut self) -> Result<u8, Cut>
         ensures { Steps (λ n. n) place_of result self.old self.new (number_at 1 self.old) }
@@ -95,7 +95,7 @@ impl<'a> Fields<'a> {
         Ok(bytes[0])
     }
 
-    /// The number in the next two bytes.
+    /// A number of two bytes.
     #[tactic(auto, using(crate::proofs::Reading::read_number))]
     pub fn u16(&mut self) -> Result<u16, Cut>
         ensures { Steps (λ n. n) place_of result self.old self.new (number_at 2 self.old) }
@@ -104,7 +104,7 @@ impl<'a> Fields<'a> {
         Ok(BigEndian::read_u16(bytes))
     }
 
-    /// The number in the next three bytes.
+    /// A number of three bytes.
     #[tactic(auto, using(crate::proofs::Reading::read_number))]
     pub fn u24(&mut self) -> Result<u32, Cut>
         ensures { Steps (λ n. n) place_of result self.old self.new (number_at 3 self.old) }
@@ -113,7 +113,7 @@ impl<'a> Fields<'a> {
         Ok(BigEndian::read_u24(bytes))
     }
 
-    /// The number in the next four bytes.
+    /// A number of four bytes.
     #[tactic(auto, using(crate::proofs::Reading::read_number))]
     pub fn u32(&mut self) -> Result<u32, Cut>
         ensures { Steps (λ n. n) place_of result self.old self.new (number_at 4 self.old) }
@@ -122,7 +122,7 @@ impl<'a> Fields<'a> {
         Ok(BigEndian::read_u32(bytes))
     }
 
-    /// The number in the next eight bytes.
+    /// A number of eight bytes.
     #[tactic(auto, using(crate::proofs::Reading::read_number))]
     pub fn u64(&mut self) -> Result<u64, Cut>
         ensures { Steps (λ n. n) place_of result self.old self.new (number_at 8 self.old) }
@@ -131,7 +131,6 @@ impl<'a> Fields<'a> {
         Ok(BigEndian::read_u64(bytes))
     }
 
-    /// A second reader that stands at the same place.
     fn ahead(&self) -> Fields<'a>
         ensures { result ≡ self.now }
     {
@@ -141,7 +140,7 @@ impl<'a> Fields<'a> {
         }
     }
 
-    /// A number of one byte that has to be this one.
+    /// One byte that must be this.
     pub fn this_u8(&mut self, value: u8) -> Result<(), Cut>
         ensures { Steps (λ _. value) place_of result self.old self.new (this_at 1 value self.old) }
     {
@@ -153,7 +152,7 @@ impl<'a> Fields<'a> {
         Ok(())
     }
 
-    /// A number of two bytes that has to be this one.
+    /// Two bytes that must be this number.
     pub fn this_u16(&mut self, value: u16) -> Result<(), Cut>
         ensures { Steps (λ _. value) place_of result self.old self.new (this_at 2 value self.old) }
     {
@@ -165,7 +164,7 @@ impl<'a> Fields<'a> {
         Ok(())
     }
 
-    /// A number of four bytes that has to be this one.
+    /// Four bytes that must be this number.
     pub fn this_u32(&mut self, value: u32) -> Result<(), Cut>
         ensures { Steps (λ _. value) place_of result self.old self.new (this_at 4 value self.old) }
     {
@@ -177,7 +176,7 @@ impl<'a> Fields<'a> {
         Ok(())
     }
 
-    /// A number of eight bytes that has to be this one.
+    /// Eight bytes that must be this number.
     pub fn this_u64(&mut self, value: u64) -> Result<(), Cut>
         ensures { Steps (λ _. value) place_of result self.old self.new (this_at 8 value self.old) }
     {
@@ -189,7 +188,7 @@ impl<'a> Fields<'a> {
         Ok(())
     }
 
-    /// Bytes with their number before them in one byte, lent and not copied.
+    /// Bytes after their count in one byte, lent.
     #[tactic(auto, unfolding(crate::specs::Cursor::sized_at))]
     pub fn sized8(&mut self) -> Result<&'a [u8], Cut>
         ensures bytes { Steps (λ x. x.now) place_of result self.old self.new (sized_at 1 self.old) }
@@ -202,7 +201,7 @@ impl<'a> Fields<'a> {
         Ok(bytes)
     }
 
-    /// Bytes with their number before them in two bytes, lent and not copied.
+    /// Bytes after their count in two bytes, lent.
     #[tactic(auto, unfolding(crate::specs::Cursor::sized_at))]
     pub fn sized16(&mut self) -> Result<&'a [u8], Cut>
         ensures bytes { Steps (λ x. x.now) place_of result self.old self.new (sized_at 2 self.old) }
@@ -215,7 +214,7 @@ impl<'a> Fields<'a> {
         Ok(bytes)
     }
 
-    /// Bytes with their number before them in four bytes, lent and not copied.
+    /// Bytes after their count in four bytes, lent.
     #[tactic(auto, unfolding(crate::specs::Cursor::sized_at))]
     pub fn sized32(&mut self) -> Result<&'a [u8], Cut>
         ensures bytes { Steps (λ x. x.now) place_of result self.old self.new (sized_at 4 self.old) }

@@ -1,8 +1,8 @@
-//! What the crates of the carousel share: shared bytes, the fields of a message, descriptors, a writer of
-//! fields, numbers in decimal digits, and the two traits through which bytes come from the outside and go there.
+//! What the crates of the carousel share: bytes, fields of a message, descriptors, a writer,
+//! decimals, and traits through which bytes come in and go out.
 //!
-//! Numbers on the wire are big-endian (ISO/IEC 13818-1 and ISO/IEC 13818-6). The traits, their counts of
-//! faults and their forms in memory are this project's own.
+//! Numbers on the wire are big-endian (ISO/IEC 13818-1 and 13818-6). Decimals and traits are this
+//! project's own.
 //!
 //! ```
 //! use oc_bytes::{Cut, Fields};
@@ -39,5 +39,5 @@ pub use source::{Failed, Source};
 use std::alloc::AllocError;
 pub use writer::Writer;
 
-/// Out of memory, where it is a call's only refusal.
+/// Out of memory, where nothing else can fail.
 pub type NoMemory = AllocError;

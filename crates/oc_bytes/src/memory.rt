@@ -6,10 +6,9 @@ use crate::sink::{Sink, WriteFault};
 use crate::source::{Failed, Source};
 use std::alloc::Global;
 
-/// Bytes in memory as a [`Source`], some calls of which fail as planned.
+/// Bytes in memory as a [`Source`]. A call moves at most `piece` bytes.
 ///
-/// A call moves at most `piece` bytes. The calls whose numbers, counted from 0, stand in `fail_at`
-/// fail, and they alone raise the count of faults.
+/// The calls numbered in `fail_at`, from 0, fail; only they count as faults.
 #[derive(Drop)]
 pub struct MemSource {
     bytes: Vec<u8>,
@@ -25,7 +24,7 @@ pub struct MemSource {
 impl MemSource {
     ghost use Rattle.oc_bytes.specs.Memory.{left_of, failing_reads, reads_made, reads_failed, read_piece};
 
-    /// A source of these bytes, of which no call was made yet. `piece` is at least 1 byte.
+    /// A source of these bytes before its first call. `piece` is at least 1.
     pub fn new(bytes: Vec<u8>, fail_at: Vec<u64>, piece: usize) -> MemSource
         requires { 1 ≤ piece }
         ensures left { left_of result ≡ bytes.items }
@@ -51,15 +50,17 @@ impl Source for MemSource {
     ghost faults = { λ s. s.failures };
 
     fn read(&mut self, into: &mut [u8]) -> Result<usize, Failed>
+        // What each source promises:
         requires { 0 < length into.old }
         ensures within { IfOk result (λ n. n ≤ length into.old) }
         ensures read { IfOk result (λ n.
             Known (Some (left_of self.old)) (Some (left_of self.new)) (λ before after.
             Takes before after into.new n)) }
+        // What a failed read leaves:
         ensures nothing { OnErr result (Some (left_of self.new) ≡ Some (left_of self.old)) }
         ensures later { reads_failed self.old ≤ reads_failed self.new }
         ensures cause { OnErr result (Faulted reads_failed self.old self.new) }
-        // The plan of failures and pieces.
+        // The plan of failures and pieces:
         ensures planned { IsErr result ↔ Contains (failing_reads self.old) (reads_made self.old) }
         ensures piece { IfOk result (λ n.
             n ≡ min (min (read_piece self.old) (length into.old)) (length (left_of self.old))) }
@@ -87,10 +88,9 @@ impl Source for MemSource {
     }
 }
 
-/// Bytes written to memory as a [`Sink`], some calls of which fail as planned.
+/// Bytes written to memory as a [`Sink`]. A call moves at most `piece` bytes.
 ///
-/// A call moves at most `piece` bytes. The calls whose numbers, counted from 0, stand in `fail_at`
-/// fail, and they alone raise the count of faults.
+/// The calls numbered in `fail_at`, from 0, fail; only they count as faults.
 #[derive(Drop)]
 pub struct MemSink {
     bytes: Vec<u8>,
@@ -106,7 +106,7 @@ pub struct MemSink {
 impl MemSink {
     ghost use Rattle.oc_bytes.specs.Memory.{written_to, failing_writes, writes_made, writes_failed, write_piece};
 
-    /// A sink that holds nothing yet, of which no call was made. `piece` is at least 1 byte.
+    /// An empty sink before its first call. `piece` is at least 1.
     pub fn new(alloc: Global, fail_at: Vec<u64>, piece: usize) -> MemSink
         requires { 1 ≤ piece }
         ensures written { written_to result ≡ [] }
@@ -145,19 +145,21 @@ impl Sink for MemSink {
     ghost late = { λ s. s.is_late };
 
     fn write(&mut self, from: &[u8]) -> Result<usize, WriteFault>
+        // What each sink promises of the bytes:
         requires { 0 < length from.now }
         ensures within { IfOk result (λ n. (0 < n) × (n ≤ length from.now)) }
         ensures appends { IfOk result (λ n.
             Known (Some (written_to self.old)) (Some (written_to self.new)) (λ before after.
             after ≡ before ++ take n from.now)) }
         ensures nothing { OnErr result (Some (written_to self.new) ≡ Some (written_to self.old)) }
+        // What it promises of failures:
         ensures later { writes_failed self.old ≤ writes_failed self.new }
         ensures cause { IsErrOf result WriteFault.Failed → Faulted writes_failed self.old self.new }
         ensures tried { self.new.is_late ≡ (self.old.has_failed || self.old.is_late) }
         ensures fails { IsErrOf result WriteFault.Failed → self.new.has_failed ≡ true }
         ensures goes_on { (IsErrOf result WriteFault.Failed → ⊥)
             → self.new.has_failed ≡ self.old.has_failed }
-        // The plan of failures and pieces.
+        // The plan of failures and pieces:
         ensures planned { IsErrOf result WriteFault.Failed
             ↔ Contains (failing_writes self.old) (writes_made self.old) }
         ensures piece { IfOk result (λ n. n ≡ min (write_piece self.old) (length from.now)) }

@@ -5,13 +5,13 @@ use crate::source::{Failed, Source};
 use std::io;
 use std::io::{Error, ErrorKind};
 
-/// How often one call is tried, where a signal interrupts it: once, and 16 times again.
+/// How often one call is tried if signals interrupt it.
 const TRIES: u32 = 17;
 
-/// A reader of the system as a [`Source`]. What it has left isn't known.
+/// A reader of the system as a [`Source`]; what it has left isn't known.
 ///
-/// Each error that the system answers raises the count of faults. A read that a signal interrupts
-/// is repeated at most 16 times.
+/// Each error of the system counts as a fault. A read that a signal interrupts is repeated at most
+/// 16 times.
 #[derive(Drop)]
 pub struct StdSource<R: Drop> {
     reader: R,
@@ -19,7 +19,7 @@ pub struct StdSource<R: Drop> {
 }
 
 impl<R: io::Read + Drop> StdSource<R> {
-    /// A source over this reader, with no fault counted yet.
+    /// A source over this reader, without faults.
     pub fn new(reader: R) -> StdSource<R>
         ensures { result.faults ≡ 0 }
     {
@@ -52,10 +52,10 @@ impl<R: io::Read + Drop> Source for StdSource<R> {
     }
 }
 
-/// A writer of the system as a [`Sink`]. What it was given isn't known.
+/// A writer of the system as a [`Sink`]; what it was given isn't known.
 ///
-/// Each error that the system answers raises the count of faults, and so does a write that takes no
-/// byte. A write that a signal interrupts is repeated at most 16 times.
+/// Each error of the system counts as a fault, and so does a write that takes no byte. A write that
+/// a signal interrupts is repeated at most 16 times.
 #[derive(Drop)]
 pub struct StdSink<W: Drop> {
     writer: W,
@@ -65,7 +65,7 @@ pub struct StdSink<W: Drop> {
 }
 
 impl<W: io::Write + Drop> StdSink<W> {
-    /// A sink over this writer, with no fault counted yet.
+    /// A sink over this writer, without faults.
     pub fn new(writer: W) -> StdSink<W>
         ensures fresh { result.faults ≡ 0 }
         ensures unfailed { (result.has_failed ≡ false) × (result.is_late ≡ false) }

@@ -6,8 +6,8 @@ use crate::NoMemory;
 use std::alloc::{AllocError, Global};
 use std::marker::Model;
 
-/// A message that is written field by field. Numbers go out big-endian, as ISO/IEC 13818-1 and 13818-6
-/// send them. A call that finds no memory changes nothing.
+/// A message, written field by field. Numbers are big-endian (ISO/IEC 13818-1, 13818-6). `Err` is
+/// out of memory, and changes nothing.
 #[derive(Drop)]
 pub struct Writer {
     bytes: Vec<u8>,
@@ -31,7 +31,7 @@ impl Writer {
         }
     }
 
-    /// Puts a number in one byte.
+    /// Puts one byte.
     pub fn put_u8(&mut self, v: u8) -> Result<(), NoMemory>
         ensures ok { OnOk result (self.new ≡ self.old ++ v ∷ []) }
         ensures err { OnErr result (self.new ≡ self.old) }
@@ -48,7 +48,7 @@ impl Writer {
         self.bytes.extend_from_slice(v)
     }
 
-    /// Puts several runs of bytes as one, one after another. Room for all of them is found before the first is put.
+    /// Puts all runs of bytes, or none of them.
     pub fn put_each(&mut self, parts: &[&[u8]]) -> Result<(), NoMemory>
         ensures ok { OnOk result (self.new ≡ self.old ++ flat_map (λ part. part.now) parts.now) }
         ensures err { OnErr result (self.new ≡ self.old) }
@@ -87,7 +87,7 @@ impl Writer {
         self.bytes.extend_from_slice(&v.to_be_bytes())
     }
 
-    /// All that was put, in order. It takes no memory.
+    /// All that was put.
     pub fn done(self) -> Vec<u8>
         ensures { result.items ≡ self }
     {
@@ -95,7 +95,6 @@ impl Writer {
     }
 }
 
-/// How many bytes these runs have together, or None where no memory could hold so many.
 fn size_of_all(parts: &[&[u8]]) -> Option<usize>
     ensures { IfSome result (λ size. size ≡ length (flat_map (λ part. part.now) parts.now)) }
 {
