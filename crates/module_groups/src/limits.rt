@@ -1,9 +1,8 @@
-//! The limits as numbers, which clauses cite by name.
 ghost use Rattle.std.specs.Prelude.{◌≡◌, ◌*◌};
 
 use crate::{GREATEST_ID, GROUP_SIZE, MOST_GROUPS};
 
-/// The limits of a carousel's modules: those of a group, the groups, and the greatest id, which is that of the last group's last module.
+/// The limits as numbers, which clauses cite by name.
 pub fn limits_are_numbers()
     ensures size { GROUP_SIZE ≡ 139 }
     ensures groups { MOST_GROUPS ≡ 16 }
