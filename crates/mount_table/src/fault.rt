@@ -1,11 +1,11 @@
 use std::alloc::AllocError;
 use thiserror::Error;
 
-/// Why no table is made of a list of mounts. The number is the place of a mount in the list, counted from 0: the first mount that
-/// breaks a rule, and of its rules the first in this order. These rules are this project's own.
+/// Why mounts make no table: the first mount that breaks a rule, by its place from 0, and the first
+/// such rule in this order.
 #[derive(Clone, Copy, Debug, PartialEq, Eq, Error)]
 pub enum TableFault {
-    /// There are more than [`MOST_MOUNTS`](crate::MOST_MOUNTS) mounts, whatever they are.
+    /// There are more than [`MOST_MOUNTS`](crate::MOST_MOUNTS) mounts.
     #[error("more than 16 mounts")]
     TooMany,
     /// The name isn't 1 to [`MOST_NAME`](crate::MOST_NAME) lower case letters or digits.

@@ -1,8 +1,8 @@
-//! Several carousels, each on a PID of its own, under names in one tree.
+//! Several carousels, each on its own PID, under names in one tree. Mounts, their rules and limits
+//! are this project's own.
 //!
-//! The first name of a path is a mount's, and the names behind it are a path on the carousel of the mount's PID, which has a receiver of its
-//! own. Packets of other PIDs never change its answers. Whose a packet is is looked up by its PID, in a table of all of them. (Mounts are
-//! this project's own.)
+//! A path's first name is a mount's. The other names are a path on the carousel of its PID, which
+//! has a receiver of its own.
 //!
 //! ```
 //! use mount_table::{Mount, Mounted, Mounts};

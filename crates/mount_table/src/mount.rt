@@ -9,18 +9,19 @@ use carousel_profile::MOST_PID;
 use path_tree::Name;
 use std::cmp::Ordering;
 
-/// The most mounts of a table. This limit is this project's own.
+/// The most mounts of a table.
 pub const MOST_MOUNTS: usize = 16;
 
-/// The most bytes of a mount's name. This limit is this project's own.
+/// The most bytes of a mount's name.
 pub const MOST_NAME: usize = 32;
 
 /// A carousel under a name.
 #[derive(Debug, Drop)]
 pub struct Mount {
-    /// The first name of each path on this carousel: in a table 1 to [`MOST_NAME`] lower case letters or digits.
+    /// The first name of each path on it: in a table 1 to [`MOST_NAME`] lower case letters or
+    /// digits.
     pub name: Name,
-    /// The PID of the packets that carry the carousel: in a table 0 to [`MOST_PID`].
+    /// The PID of its packets: in a table 0 to [`MOST_PID`].
     pub pid: u16,
 }
 
@@ -32,7 +33,6 @@ impl Mount {
         self.name.bytes() == name
     }
 
-    /// How the mount stands to another in the order of their names.
     fn compare(&self, other: &Mount) -> Ordering
         ensures { result ≡ name_cmp self.now.name other.now.name }
     {
@@ -70,7 +70,6 @@ fn has_pid(mounts: &[Mount], pid: u16) -> bool
     mounts.iter().any(|mount| mount.pid == pid)
 }
 
-/// The first rule that a mount at this place breaks, with these before it.
 fn fault_of(place: usize, earlier: &[Mount], mount: &Mount) -> Option<TableFault>
     ensures { result ≡ fault_at place earlier.now mount.now }
 {
@@ -87,7 +86,7 @@ fn fault_of(place: usize, earlier: &[Mount], mount: &Mount) -> Option<TableFault
     }
 }
 
-/// Why no table is made of these mounts.
+/// Why these mounts make no table.
 pub fn refusal(mounts: &[Mount]) -> Option<TableFault>
     ensures { result ≡ refusal_of mounts.now }
 {
@@ -97,7 +96,6 @@ pub fn refusal(mounts: &[Mount]) -> Option<TableFault>
     first_fault(mounts)
 }
 
-/// The first fault of the first mount that breaks a rule.
 fn first_fault(mounts: &[Mount]) -> Option<TableFault>
     ensures { result ≡ slice_get (table.faults_of mounts.now) 0 }
 {
@@ -109,7 +107,7 @@ fn first_fault(mounts: &[Mount]) -> Option<TableFault>
     None
 }
 
-/// Puts mounts into the order of their names.
+/// Sorts mounts by name.
 pub fn sort_by_name(mounts: &mut [Mount])
     ensures { IsTableOf mounts.old mounts.new }
 {

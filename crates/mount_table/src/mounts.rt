@@ -20,23 +20,22 @@ use path_tree::Path;
 use std::alloc::{AllocError, Global};
 use std::marker::Model;
 
-/// The answer to a path of the tree in which the mounts stand.
+/// The answer to a path below the mounts.
 #[derive(Drop)]
 pub enum Mounted {
     /// The path is the root, the folder of all mounts.
     Root,
     /// No mount has the path's first name.
     NoMount,
-    /// The mount of the path's first name is on this PID, and this is its carousel's answer to the names behind it. Where there are none,
-    /// that is the carousel's root.
+    /// The PID of the first name's mount, and its carousel's answer to the other names.
     At(u16, Answer),
 }
 
-/// Several carousels under names in one tree, each with a receiver on a PID of its own.
+/// Several carousels under names in one tree.
 #[derive(Drop)]
 pub struct Mounts {
     receivers: Vec<Receiver>,
-    /// For each PID the place of the receiver that is on it, if one is.
+    /// For each PID the place of its receiver.
     places: Vec<Option<u8>>,
     spent: bool,
 }
@@ -52,7 +51,6 @@ impl Model for Mounts {
     ghost invariant = { HasPlaces };
 }
 
-/// The mounts with their receivers, in the same order.
 fn receivers_of(alloc: Global, mounts: Vec<Mount>) -> Result<Vec<Receiver>, NoMemory>
     ensures mounts { IfOk result (λ rs. map (λ r. r.mount) rs.items ≡ mounts.items) }
     ensures receives { IfOk result (λ rs. All (Receives []) rs.items) }
@@ -65,7 +63,7 @@ fn receivers_of(alloc: Global, mounts: Vec<Mount>) -> Result<Vec<Receiver>, NoMe
     Ok(receivers)
 }
 
-/// The mount at the place of a packet's PID takes the packet. Where the PID has no place, it is no mount's.
+/// The mount at a PID's place takes the packet.
 #[inline]
 fn hear_at(
     receivers: &mut [Receiver],
@@ -87,7 +85,6 @@ fn hear_at(
     }
 }
 
-/// The mount of a name, with its receiver.
 fn receiver_named<'a>(receivers: &'a [Receiver], name: &[u8]) -> Option<&'a Receiver>
     ensures { option_map (λ r. r.now) result
         ≡ find (λ r. same_name r.mount.name name.now) receivers.now }
@@ -98,14 +95,8 @@ fn receiver_named<'a>(receivers: &'a [Receiver], name: &[u8]) -> Option<&'a Rece
 }
 
 impl Mounts {
-    /// A table of these mounts that has had no packet.
-    ///
-    /// `TooMany` comes exactly where there are more than [`MOST_MOUNTS`](crate::MOST_MOUNTS). Else the first mount that breaks a rule is
-    /// refused, by its place in `mounts` from 0 on: as `BadName` where its name isn't 1 to [`MOST_NAME`](crate::MOST_NAME) lower case
-    /// letters or digits, as `BadPid` where its PID is above [`MOST_PID`](crate::MOST_PID), and as `NameTwice` or `PidTwice` where an
-    /// earlier mount has its name or its PID; of several the first in this order. `NoMemory` comes only of mounts that aren't refused. A
-    /// table of no mounts is accepted. (These rules are this project's own.) Besides its receivers a table keeps 16 KiB, by which
-    /// [`feed`](Mounts::feed) finds the mount of a PID.
+    /// A table of these mounts, perhaps none, before the first packet. [`TableFault`] says what is
+    /// refused. A table keeps 16 KiB, by which [`feed`](Mounts::feed) finds the mount of a PID.
     pub fn new(alloc: Global, mut mounts: Vec<Mount>) -> Result<Mounts, TableFault>
         ensures refused { IfErr result (λ fault. refusal_of mounts.items ≡ refusal_in fault) }
         ensures accepted { OnOk result (refusal_of mounts.items ≡ None) }
@@ -125,11 +116,11 @@ impl Mounts {
         })
     }
 
-    /// Takes one packet of the stream, of any PID: the mount of its PID receives it, and no other. A packet that doesn't parse, or whose
-    /// PID no mount has, changes no answer. The mount is found by one look into a table of all PIDs, however many mounts there are.
+    /// Takes one packet of any PID: only the mount of its PID receives it. One look-up by PID finds
+    /// the mount, however many there are.
     ///
-    /// `NoMemory` comes only of a packet that completes a section on a mount's PID. After it the table is spent: each later call of this and
-    /// of [`open_path`](Mounts::open_path) answers `NoMemory`.
+    /// After `NoMemory` the table is spent: later calls of this and of
+    /// [`open_path`](Mounts::open_path) answer `NoMemory`.
     pub fn feed(&mut self, packet: &[u8; PACKET_LENGTH]) -> Result<(), NoMemory>
         ensures stands { OnOk result ((packets : List Bytes)
             → StandsFor self.old packets
@@ -151,7 +142,6 @@ impl Mounts {
         Ok(())
     }
 
-    /// The mount on a packet's PID takes it, if there is one.
     #[inline]
     fn hear(&mut self, packet: &[u8; PACKET_LENGTH]) -> Result<(), NoMemory>
         ensures receives { OnOk result ((packets : List Bytes)
@@ -168,10 +158,8 @@ impl Mounts {
         hear_at(&mut self.receivers, place, packet)
     }
 
-    /// The answer to a path by all packets so far: `Root` for the root, `NoMount` where no mount has the first name, and else the mount's PID
-    /// and its carousel's answer to the names behind the first one, by the packets of that PID alone.
-    ///
-    /// `NoMemory` comes where the table is spent, and else only below a mount: a shot of what its receiver holds is made for each such call.
+    /// The answer to a path, by all packets so far. `NoMemory` comes if the table is spent, or
+    /// below a mount, because each call makes a shot of its receiver.
     pub fn open_path(&self, path: &Path) -> Result<Mounted, NoMemory>
         ensures answer { IfOk result (λ m.
             (packets : List Bytes)
@@ -197,14 +185,14 @@ impl Mounts {
         }
     }
 
-    /// How many mounts the table has: as many as it was made of. It takes no memory.
+    /// The number of mounts.
     pub fn len(&self) -> usize
         ensures { result ≡ length (mounts_of self.now) }
     {
         self.receivers.len()
     }
 
-    /// Mount number `i`, from 0, below [`len`](Mounts::len): they stand in the order of their names' bytes. It takes no memory.
+    /// Mount number `i` from 0, by the bytes of their names.
     pub fn mount(&self, i: usize) -> &Mount
         requires { i < length (mounts_of self.now) }
         ensures { slice_get (mounts_of self.now) i ≡ Some result.now }

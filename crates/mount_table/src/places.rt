@@ -5,10 +5,10 @@ use crate::mount::Mount;
 use oc_bytes::NoMemory;
 use std::alloc::Global;
 
-/// How many PIDs there are: 13 bits of a packet's header (ISO/IEC 13818-1, 2.4.3.2).
+/// How many PIDs 13 bits of a header give (ISO/IEC 13818-1, 2.4.3.2).
 const PIDS: usize = 8192;
 
-/// For each PID the place of the mount that has it, if one has.
+/// For each PID the place of its mount.
 pub fn places_of(alloc: Global, mounts: &[Mount]) -> Result<Vec<Option<u8>>, NoMemory>
     requires { AreApart mounts.now }
     ensures { IfOk result (λ places. ArePlaces (pids_of mounts.now) places.items) }

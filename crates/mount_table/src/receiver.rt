@@ -23,7 +23,6 @@ pub struct Receiver {
     pub tuner: Tuner,
 }
 
-/// A receiver hears the sections that a packet completed, in order.
 #[inline(never)]
 fn hear_all(tuner: &mut Tuner, sections: Vec<Vec<u8>>) -> Result<(), NoMemory>
     ensures stands { OnOk result ((heard : List Bytes)
@@ -37,7 +36,7 @@ fn hear_all(tuner: &mut Tuner, sections: Vec<Vec<u8>>) -> Result<(), NoMemory>
     Ok(())
 }
 
-/// The path of all names behind the first one.
+/// The path without its first name.
 fn rest_of(path: &Path) -> Result<Path, NoMemory>
     ensures { IfOk result (λ rest. rest ≡ drop 1 path.now) }
 {
@@ -49,7 +48,7 @@ fn rest_of(path: &Path) -> Result<Path, NoMemory>
 }
 
 impl Receiver {
-    /// A mount that has had no packet.
+    /// A mount before its first packet.
     pub fn new(alloc: Global, mount: Mount) -> Result<Receiver, NoMemory>
         ensures mount { IfOk result (λ r. r.mount ≡ mount) }
         ensures receives { IfOk result (λ r. Receives [] r) }
@@ -62,7 +61,7 @@ impl Receiver {
         })
     }
 
-    /// Takes a packet whose header has the mount's PID. Most packets complete no section, and then nothing is called.
+    /// Takes a packet of the mount's PID. Most complete no section; then it calls nothing.
     #[inline]
     pub fn hear(&mut self, packet: &[u8; PACKET_LENGTH]) -> Result<(), NoMemory>
         requires { header_pid packet.now ≡ self.old.mount.pid }
@@ -83,7 +82,7 @@ impl Receiver {
         hear_all(&mut self.tuner, sections)
     }
 
-    /// The answer to what follows the first name of a path.
+    /// The answer to what follows a path's first name.
     pub fn answer(&self, path: &Path) -> Result<Answer, NoMemory>
         ensures { IfOk result (λ a.
             (heard : List Bytes)

@@ -3,8 +3,7 @@ ghost use Rattle.mount_table.specs.Receiving as receiving;
 
 use carousel_profile::PACKET_LENGTH;
 
-/// The 13 bits of the PID in a packet's header, whatever else the packet is: two bytes are looked at, since whoever takes the packet
-/// parses it.
+/// The PID bits of a header, whatever the packet is; its receiver parses it.
 #[inline]
 pub fn header_pid(packet: &[u8; PACKET_LENGTH]) -> u16
     ensures pid { result ≡ receiving.header_pid packet.now }
