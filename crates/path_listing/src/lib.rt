@@ -1,4 +1,5 @@
-//! The paths of what a receiver holds, from the root on.
+//! The paths of what a receiver holds, from the root on. The rules and the limit are this project's
+//! own.
 //!
 //! ```
 //! use path_listing::listed_paths;

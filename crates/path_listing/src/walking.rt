@@ -20,11 +20,12 @@ pub struct Listing {
     pub whole: bool,
 }
 
-/// The paths from the root on that the folders of a shot lead to, of at most [`MOST_NAMES`] names: a path, and then those below it in the
-/// order of its folder's bindings, each name at its first binding only. A name that is no name of a `Path` is passed over. Folders that
-/// lead back to themselves give a path for each way of at most so many names.
+/// The paths from the root that a shot's folders lead to, of at most [`MOST_NAMES`] names. `Err` is
+/// out of memory.
 ///
-/// Out of memory is the only refusal. These rules are this project's own.
+/// A path comes before those below it. They follow the bindings, each name at its first one. Names
+/// that no `Path` can have are ignored. A folder that leads back to itself gives a path for each
+/// way.
 pub fn listed_paths(alloc: Global, shot: &Shot) -> Result<Listing, NoMemory>
     ensures paths { IfOk result (λ l.
         l.paths.items ≡ take MOST_LISTED (all_paths (answers_of shot.now))) }
@@ -39,7 +40,7 @@ pub fn listed_paths(alloc: Global, shot: &Shot) -> Result<Listing, NoMemory>
     Ok(Listing { paths, whole })
 }
 
-/// Lists a path and those below it; false where there wasn't room for all.
+/// Lists a path and those below it; false if there wasn't room for all, as in the next two.
 #[cycle(list)]
 fn list_from(shot: &Shot, path: Path, paths: &mut Vec<Path>) -> Result<bool, NoMemory>
     requires { length paths.old.items ≤ MOST_LISTED }
@@ -62,7 +63,6 @@ fn list_from(shot: &Shot, path: Path, paths: &mut Vec<Path>) -> Result<bool, NoM
     }
 }
 
-/// Lists what is below a path, by the names of its folder; false where there wasn't room for all.
 #[cycle(list)]
 fn list_names(
     shot: &Shot,
@@ -88,7 +88,6 @@ fn list_names(
     Ok(true)
 }
 
-/// Lists what is below a path by one name; false where there wasn't room for all.
 #[cycle(list)]
 fn list_below(
     shot: &Shot,
@@ -108,7 +107,6 @@ fn list_below(
     }
 }
 
-/// The folder where the answer is one.
 fn folder_of(answer: &Answer) -> Option<&FolderRef>
     ensures { option_map (λ folder. folder.now) result ≡ folder_in answer.now }
 {
