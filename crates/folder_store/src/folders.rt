@@ -11,18 +11,18 @@ use thiserror::Error;
 /// What an entry of a folder is.
 #[derive(Clone, Copy, Debug, PartialEq, Eq)]
 pub enum EntryKind {
-    /// A regular file, whose bytes can be read.
+    /// A regular file.
     File,
-    /// A folder, which can be listed.
+    /// A folder.
     Folder,
-    /// A link or anything else. Whoever reads a folder passes it over.
+    /// A link or anything else, which readers pass over.
     Other,
 }
 
-/// What stands right below a folder.
+/// What is directly below a folder.
 #[derive(Drop)]
 pub struct FolderEntry {
-    /// The last name of the entry's path text. It holds no `/`.
+    /// The last name of its path text, without `/`.
     pub name: String,
     /// What the entry is.
     pub kind: EntryKind,
@@ -31,9 +31,8 @@ pub struct FolderEntry {
 /// Why a folder wasn't listed, or a file not read.
 #[derive(Clone, Copy, Debug, PartialEq, Eq, Error)]
 pub enum FolderFault {
-    /// The system answered with an error, or the path is wrong. It comes only where the count of faults
-    /// rose in this call, or stands at its type's end, or where the tree is known and the path is no
-    /// folder (`list`) or no file (`read`) of it.
+    /// The system answered with an error, and the count of faults rose unless it is saturated. Or
+    /// the tree is known and has no such folder (`list`) or file (`read`).
     #[error("the folder could not be listed, or the file not read")]
     Failed,
     /// There is no memory.
@@ -52,34 +51,37 @@ impl From<AllocError> for FolderFault {
     }
 }
 
-/// Folders and files of the outside. This trait is this project's own.
+/// Folders and files of the outside.
 ///
-/// A path text is the names of a file or a folder, the outermost first, with a `/` between two of them:
-/// `site/img/logo.png`. No call changes what stands there, nor whether that is known.
+/// A path text is the names of a file or folder, the outermost first, separated by `/`:
+/// `site/img/logo.png`. No call changes the tree, nor whether it is known.
 pub trait Folders {
     ghost use Rattle.path_tree.specs.Paths.{Bytes};
     ghost use Rattle.folder_store.specs.Folders.{FolderTree, entry_at, content_of, is_folder_at, view_entry, IsListed, IsRead, IsRefused, MayFail};
 
-    /// What stands there, where it is known.
+    /// The tree, if it is known.
     ghost tree: { Self → Option FolderTree };
 
     /// How often a call failed. It never falls.
     ghost faults: { Self → ℕ };
 
-    /// Whether a call asked for a folder or a file that isn't there, where what stands there is known.
+    /// Whether a call asked a known tree for what isn't there.
     ghost strayed: { Self → Bool };
 
-    /// The path text of the last call that answered `Failed`, where it is kept.
+    /// The path text of the last call that answered `Failed`, if it is kept.
     ghost refused: { Self → Option Bytes };
 
-    /// The entries right below the folder `path`, each once, in no stated order.
+    /// The entries directly below the folder `path`, each once, in any order.
     fn list(&mut self, alloc: Global, path: &str) -> Result<Vec<FolderEntry>, FolderFault>
+        // What is listed:
         ensures same { tree self.new ≡ tree self.old }
         ensures entries { IfOk result (λ es.
             WhereTold (tree self.old) (λ t. IsListed t path.now (map view_entry es.items))) }
+        // When it fails:
         ensures later { faults self.old ≤ faults self.new }
         ensures cause { IsErrOf result FolderFault.Failed
             → MayFail (Faulted faults self.old self.new) (tree self.old) (IsNoFolder path.now) }
+        // What was asked for in vain, and what is kept of it:
         ensures owed { WhereTold (tree self.old) (λ t.
             is_folder_at t path.now ≡ true → strayed self.new ≡ strayed self.old) }
         ensures strays { WhereTold (tree self.old) (λ t.
@@ -88,15 +90,18 @@ pub trait Folders {
         ensures kept { (IsErrOf result FolderFault.Failed → ⊥)
             → refused self.new ≡ refused self.old };
 
-    /// The first `most` bytes of the file `path`, or all of them where it has fewer.
+    /// The first `most` bytes of the file `path`, or all if it has fewer.
     fn read(&mut self, alloc: Global, path: &str, most: usize) -> Result<Vec<u8>, FolderFault>
+        // What is read:
         ensures same { tree self.new ≡ tree self.old }
         ensures bytes { IfOk result (λ bs.
             WhereTold (tree self.old) (λ t. IsRead t path.now most bs.items)) }
+        // When it fails:
         ensures later { faults self.old ≤ faults self.new }
         ensures cause { IsErrOf result FolderFault.Failed
             → MayFail (Faulted faults self.old self.new) (tree self.old) (λ t.
             content_of (entry_at t path.now) ≡ None) }
+        // What was asked for in vain, and what is kept of it:
         ensures owed { WhereTold (tree self.old) (λ t.
             is_some (content_of (entry_at t path.now)) ≡ true
             → strayed self.new ≡ strayed self.old) }
@@ -106,12 +111,12 @@ pub trait Folders {
         ensures kept { (IsErrOf result FolderFault.Failed → ⊥)
             → refused self.new ≡ refused self.old };
 
-    /// The count of faults, which stays at the greatest `u64`.
+    /// The count of faults, saturating.
     fn faults(&self) -> u64
         ensures { result ≡ faults self.now };
 }
 
-/// A path text that was refused, where there is memory to keep it.
+/// A refused path text, if there is memory to keep it.
 pub(crate) fn kept_text(alloc: Global, path: &str) -> Option<String>
     ensures { IsRefused (option_map string_bytes result) path.now }
 {

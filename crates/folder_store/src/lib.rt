@@ -1,4 +1,5 @@
-//! Folders of the outside as edits, and what is written into them.
+//! Folders of the outside as edits, and writing into them. The traits and the rules of reading are
+//! this project's own.
 //!
 //! ```
 //! use folder_store::{MemFolders, read_tree};

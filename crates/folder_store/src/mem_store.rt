@@ -11,14 +11,13 @@ use crate::store::{Store, StoreFault};
 use oc_bytes::{Blob, NoMemory};
 use std::alloc::Global;
 
-/// What stands under a path.
 #[derive(Drop)]
 pub(crate) enum Stood {
     File(Blob),
     Folder,
 }
 
-/// The calls, of which some fail as planned.
+/// The calls, some of which fail as planned.
 #[derive(Drop)]
 struct Calls {
     fail_at: Vec<u64>,
@@ -26,11 +25,11 @@ struct Calls {
     failed: u64,
 }
 
-/// A store in memory as [`Store`], some calls of which fail as planned. What was written can be read.
+/// A store in memory as [`Store`], some calls of which fail as planned.
 ///
-/// The calls whose numbers, counted from 0 over `make_folder` and `write_new` together, stand in `fail_at` fail, and they alone raise
-/// the count of faults. A call fails without that where something stands under its path, or where the folder above isn't there; the
-/// one above a single name always is. Two paths are the same where they are byte for byte.
+/// The calls numbered in `fail_at`, from 0 over both kinds, fail; only they count as faults. A call
+/// also fails if its path is taken or lacks the folder above; a single name always has one. Paths
+/// compare byte for byte.
 #[derive(Drop)]
 pub struct MemStore {
     entries: Vec<(String, Stood)>,
@@ -38,7 +37,7 @@ pub struct MemStore {
 }
 
 impl Calls {
-    /// Counts a call, and fails where its number is planned to.
+    /// Counts a call, and fails if that is planned.
     fn begin(&mut self) -> Result<(), StoreFault>
         ensures plan { self.new.fail_at ≡ self.old.fail_at }
         ensures made { self.new.made ≡ cap_at_u64 (self.old.made + 1) }
@@ -63,7 +62,7 @@ impl Calls {
 impl MemStore {
     ghost use Rattle.folder_store.specs.Stocks.{stored_in, store_plan, store_calls, store_faults};
 
-    /// A store in which nothing stands, and of which no call was made yet.
+    /// An empty store before its first call.
     pub fn new(alloc: Global, fail_at: Vec<u64>) -> MemStore
         ensures empty { stored_in result ≡ [] }
         ensures fresh { (store_calls result ≡ 0) × (store_faults result ≡ 0) }
@@ -117,6 +116,7 @@ impl Store for MemStore {
     ghost faults = { λ s. store_faults s };
 
     fn make_folder(&mut self, alloc: Global, path: &str) -> Result<(), StoreFault>
+        // What each store promises:
         ensures made { OnOk result
             (Some (stored_in self.new)
             ≡ with_entries (Some (stored_in self.old)) ((path.now, AFolder) ∷ [])) }
@@ -127,7 +127,7 @@ impl Store for MemStore {
         ensures cause { IsErrOf result StoreFault.Failed
             → MayFail (Faulted store_faults self.old self.new) (Some (stored_in self.old)) (λ t.
             can_add t path.now ≡ false) }
-        // The plan of failures.
+        // The plan of failures:
         ensures planned { IsErrOf result StoreFault.Failed
             ↔ (NextStoreFails self.old ⊎ (can_add (stored_in self.old) path.now ≡ false)) }
         ensures counted { NextStoreFails self.old
@@ -145,6 +145,7 @@ impl Store for MemStore {
     }
 
     fn write_new(&mut self, alloc: Global, path: &str, bytes: &[u8]) -> Result<(), StoreFault>
+        // What each store promises:
         ensures written { OnOk result
             (Some (stored_in self.new)
             ≡ with_entries (Some (stored_in self.old)) ((path.now, AFile bytes.now) ∷ [])) }
@@ -155,7 +156,7 @@ impl Store for MemStore {
         ensures cause { IsErrOf result StoreFault.Failed
             → MayFail (Faulted store_faults self.old self.new) (Some (stored_in self.old)) (λ t.
             can_add t path.now ≡ false) }
-        // The plan of failures.
+        // The plan of failures:
         ensures planned { IsErrOf result StoreFault.Failed
             ↔ (NextStoreFails self.old ⊎ (can_add (stored_in self.old) path.now ≡ false)) }
         ensures counted { NextStoreFails self.old
@@ -178,7 +179,6 @@ impl Store for MemStore {
     }
 }
 
-/// Puts an entry after those that stand.
 fn push(
     alloc: Global,
     entries: &mut Vec<(String, Stood)>,
@@ -195,7 +195,6 @@ fn push(
     Ok(())
 }
 
-/// What stands under a path.
 fn stood_at<'a>(entries: &'a [(String, Stood)], path: &str) -> Option<&'a Stood>
     ensures { option_map (λ s. view_stood s.now) result
         ≡ entry_at (tree_stored entries.now) path.now }
@@ -208,21 +207,19 @@ fn stood_at<'a>(entries: &'a [(String, Stood)], path: &str) -> Option<&'a Stood>
     None
 }
 
-/// Whether an entry can be added under a path.
 fn can_stand(entries: &[(String, Stood)], path: &str) -> bool
     ensures { result ≡ can_add (tree_stored entries.now) path.now }
 {
     stood_at(entries, path).is_none() && has_parent_in(entries, path)
 }
 
-/// Whether the folder right above a path is there; the one above a single name always is.
+/// Whether the folder above a path is there; a single name always has one.
 fn has_parent_in(entries: &[(String, Stood)], path: &str) -> bool
     ensures { result ≡ has_parent (tree_stored entries.now) path.now }
 {
     is_one_name(path) || has_folder_above(entries, path)
 }
 
-/// Whether an entry is the folder right above a path.
 fn has_folder_above(entries: &[(String, Stood)], path: &str) -> bool
     ensures { result ≡ list_any (stores.is_parent path.now) (tree_stored entries.now) }
 {
@@ -231,7 +228,6 @@ fn has_folder_above(entries: &[(String, Stood)], path: &str) -> bool
         .any(|(text, stood)| is_parent(text.as_str(), stood, path))
 }
 
-/// Whether this entry is the folder right above a path.
 fn is_parent(text: &str, stood: &Stood, path: &str) -> bool
     ensures { result ≡ stores.is_parent path.now (text.now, view_stood stood.now) }
 {
@@ -244,7 +240,6 @@ fn is_parent(text: &str, stood: &Stood, path: &str) -> bool
     }
 }
 
-/// Whether there is no `/` in a text.
 fn is_one_name(text: &str) -> bool
     ensures { result ≡ is_name_text text.now }
 {

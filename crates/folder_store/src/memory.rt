@@ -12,8 +12,8 @@ use std::alloc::Global;
 
 /// Files and folders in memory as [`Folders`], some calls of which fail as planned.
 ///
-/// The calls whose numbers, counted from 0 over `list` and `read` together, stand in `fail_at` fail,
-/// and they alone raise the count of faults. A path that is no folder, or no file, fails without that.
+/// The calls numbered in `fail_at`, from 0 over `list` and `read`, fail; only they count as faults.
+/// A path that is no folder, or no file, also fails.
 #[derive(Drop)]
 pub struct MemFolders {
     entries: Vec<(String, Blob)>,
@@ -28,13 +28,12 @@ pub struct MemFolders {
 impl MemFolders {
     ghost use Rattle.folder_store.specs.Kept.{tree_in, failing_calls, calls_made, calls_failed};
 
-    /// Folders of these entries, of which no call was made yet.
+    /// Folders of these entries, before the first call.
     ///
-    /// An entry's text is the whole path text of a file, `site/img/logo.png` say, and its bytes are the
-    /// content. Where the text ends in `/` the entry is a folder, and the bytes count for nothing. What
-    /// stands before a `/` of an entry's text is a folder too, so `a//b`
-    /// is the file `b` in a folder without a name in the folder `a`, and `/` is a folder whose own text
-    /// is empty. No two files have one text, and no file has a folder's.
+    /// An entry's text is a file's whole path text, its bytes the content. If it ends in `/` it is
+    /// a folder, and its bytes are ignored. Each text before a `/` is a folder too, so `a//b` is
+    /// the file `b` in a folder without a name. No two files share a text, and no file has a
+    /// folder's.
     pub fn new(entries: Vec<(String, Blob)>, fail_at: Vec<u64>) -> MemFolders
         requires { AreEntries (entries_in entries.items) }
         ensures tree { tree_in result ≡ tree_of (entries_in entries.items) }
@@ -52,14 +51,17 @@ impl MemFolders {
         }
     }
 
-    /// Counts a call, and fails where its number is planned to.
+    /// Counts a call, and fails if that is planned.
     fn begin(&mut self, alloc: Global, path: &str) -> Result<(), FolderFault>
+        // What stays:
         ensures entries { self.new.entries ≡ self.old.entries }
         ensures plan { self.new.fail_at ≡ self.old.fail_at }
         ensures strayed { self.new.strayed ≡ self.old.strayed }
+        // What is kept of a refusal:
         ensures failed { OnErr result
             (IsRefused (option_map string_bytes self.new.refused) path.now) }
         ensures kept { OnOk result (self.new.refused ≡ self.old.refused) }
+        // How calls and failures count:
         ensures made { self.new.calls ≡ cap_at_u64 (self.old.calls + 1) }
         ensures later { self.old.failures ≤ self.new.failures }
         ensures err { IfErr result (λ e.
@@ -92,6 +94,7 @@ impl Folders for MemFolders {
     ghost refused = { last_refused };
 
     fn list(&mut self, alloc: Global, path: &str) -> Result<Vec<FolderEntry>, FolderFault>
+        // What each source of folders promises:
         ensures same { Some (tree_in self.new) ≡ Some (tree_in self.old) }
         ensures entries { IfOk result (λ es.
             WhereTold (Some (tree_in self.old)) (λ t.
@@ -108,7 +111,7 @@ impl Folders for MemFolders {
             → IsRefused (last_refused self.new) path.now }
         ensures kept { (IsErrOf result FolderFault.Failed → ⊥)
             → last_refused self.new ≡ last_refused self.old }
-        // The plan of failures.
+        // The plan of failures:
         ensures planned { IsErrOf result FolderFault.Failed
             ↔ (NextCallFails self.old ⊎ (is_folder_at (tree_in self.old) path.now ≡ false)) }
         ensures counted { NextCallFails self.old
@@ -129,6 +132,7 @@ impl Folders for MemFolders {
     }
 
     fn read(&mut self, alloc: Global, path: &str, most: usize) -> Result<Vec<u8>, FolderFault>
+        // What each source of folders promises:
         ensures same { Some (tree_in self.new) ≡ Some (tree_in self.old) }
         ensures bytes { IfOk result (λ bs.
             WhereTold (Some (tree_in self.old)) (λ t. IsRead t path.now most bs.items)) }
@@ -145,7 +149,7 @@ impl Folders for MemFolders {
             → IsRefused (last_refused self.new) path.now }
         ensures kept { (IsErrOf result FolderFault.Failed → ⊥)
             → last_refused self.new ≡ last_refused self.old }
-        // The plan of failures.
+        // The plan of failures:
         ensures planned { IsErrOf result FolderFault.Failed
             ↔ (NextCallFails self.old
             ⊎ (content_of (entry_at (tree_in self.old) path.now) ≡ None)) }
@@ -178,7 +182,7 @@ pub(crate) fn below<'a>(path: &str, text: &'a str) -> Option<&'a str>
     text.strip_prefix(path)?.strip_prefix('/')
 }
 
-/// The name of the entry `text`, where it is a file right below the folder.
+/// The name of the entry `text`, if it is a file directly below the folder.
 fn file_below<'a>(path: &str, text: &'a str) -> Option<&'a str>
     ensures { option_copied result
         ≡ (if ends_in_slash text.now then None else file_name
@@ -194,7 +198,7 @@ fn file_below<'a>(path: &str, text: &'a str) -> Option<&'a str>
     }
 }
 
-/// The name of the folder right below the folder in which the entry `text` stands, or which it is.
+/// The name of the folder directly below that the entry `text` is or is in.
 fn folder_below<'a>(path: &str, text: &'a str) -> Option<&'a str>
     ensures { option_copied result ≡ folder_name (after_prefix (path.now ++ 47 ∷ []) text.now) }
 {
@@ -202,7 +206,7 @@ fn folder_below<'a>(path: &str, text: &'a str) -> Option<&'a str>
     Some(name)
 }
 
-/// Whether the path is a folder: an entry is it or stands in it.
+/// Whether an entry is the folder or is in it.
 fn is_folder(entries: &[(String, Blob)], path: &str) -> bool
     requires { AreEntries (entries_in entries.now) }
     ensures { result ≡ is_folder_at (tree_of (entries_in entries.now)) path.now }
@@ -212,7 +216,6 @@ fn is_folder(entries: &[(String, Blob)], path: &str) -> bool
         .any(|(text, _)| below(path, text.as_str()).is_some())
 }
 
-/// The files and the folders right below a folder.
 fn listing(
     alloc: Global,
     entries: &[(String, Blob)],
@@ -229,7 +232,6 @@ fn listing(
     Ok(found)
 }
 
-/// The files right below a folder.
 fn list_files(
     alloc: Global,
     entries: &[(String, Blob)],
@@ -250,7 +252,6 @@ fn list_files(
     Ok(found)
 }
 
-/// The folders right below a folder, each once.
 fn list_folders(
     alloc: Global,
     entries: &[(String, Blob)],
@@ -268,7 +269,6 @@ fn list_folders(
     Ok(found)
 }
 
-/// Puts a folder after those that were found, unless it is among them.
 fn add_folder(alloc: Global, found: &mut Vec<FolderEntry>, name: &str) -> Result<(), NoMemory>
     ensures { OnOk result
         (map view_entry found.new.items ≡ with_folder (map view_entry found.old.items) name.now) }
@@ -282,7 +282,6 @@ fn add_folder(alloc: Global, found: &mut Vec<FolderEntry>, name: &str) -> Result
     Ok(())
 }
 
-/// The bytes of a file.
 fn content_at<'a>(entries: &'a [(String, Blob)], path: &str) -> Option<&'a [u8]>
     ensures { option_copied result
         ≡ content_of (entry_at (tree_of (entries_in entries.now)) path.now) }

@@ -13,14 +13,14 @@ use std::{fs, io};
 /// The last name of a file while it is written. No file of this name itself can be written.
 pub const PART_NAME: &str = ".carousel-part";
 
-/// Folders of the system as [`Store`]. What stands there isn't known.
+/// Folders of the system as [`Store`], of unknown content.
 ///
-/// Each error that the system answers raises the count of faults. A call that a signal interrupts is repeated at most 16 times. A
-/// path text is the system's, from the current folder on where it doesn't begin with `/`.
+/// Each error of the system counts as a fault. A call that a signal interrupts is repeated at most
+/// 16 times. Path texts are the system's.
 ///
-/// A file is written under the name [`PART_NAME`] beside its place, and gets its own name as a second one, which the system gives only
-/// where nothing stands, not even a link. Then the first name is taken away. Where the system can't give a file two names, the file is
-/// renamed once nothing was found in its place. The program waits for no disk: what a machine that stops in between keeps isn't said.
+/// A file is written as [`PART_NAME`] in its folder. It gets its own name as a second one, which
+/// the system refuses if anything, even a link, is there. Then the first name is removed. A system
+/// without second names renames the file after finding its place free. No call waits for the disk.
 #[derive(Drop)]
 pub struct OsStore<R: Drop> {
     rt: R,
@@ -28,7 +28,7 @@ pub struct OsStore<R: Drop> {
 }
 
 impl<R: Files + Drop> OsStore<R> {
-    /// The folders that this runtime reaches, with no fault counted yet.
+    /// The folders that this runtime reaches, without faults.
     pub fn new(rt: R) -> OsStore<R>
         ensures { result.faults ≡ 0 }
     {
@@ -65,7 +65,6 @@ impl<R: Files + Drop> OsStore<R> {
         Err(StoreFault::Failed)
     }
 
-    /// Writes the bytes of a file that was created.
     fn fill(&mut self, file: R::File, bytes: &[u8]) -> Result<(), StoreFault>
         ensures later { self.old.faults ≤ self.new.faults }
         ensures cause { IsErrOf result StoreFault.Failed → Rose self.old.faults self.new.faults }
@@ -80,7 +79,7 @@ impl<R: Files + Drop> OsStore<R> {
         }
     }
 
-    /// Gives the file `part` its own name, where nothing stands under that.
+    /// Gives the file `part` its own name, unless that is taken.
     fn place(&mut self, part: &str, path: &str) -> Result<(), StoreFault>
         ensures later { self.old.faults ≤ self.new.faults }
         ensures cause { IsErrOf result StoreFault.Failed → Rose self.old.faults self.new.faults }
@@ -94,8 +93,7 @@ impl<R: Files + Drop> OsStore<R> {
         Err(StoreFault::Failed)
     }
 
-    /// Takes the name `part` away, where it is still there, and tries again where a signal interrupts it. Where that fails a name is left
-    /// that nobody asked for. Each error is counted.
+    /// Removes the name `part`, if it is there. If that fails, the name is left.
     fn clear(&mut self, part: &str)
         ensures { self.old.faults ≤ self.new.faults }
     {
@@ -145,7 +143,7 @@ impl<R: Files + Drop> Store for OsStore<R> {
     }
 }
 
-/// The text of the part's name in the folder in which a path stands.
+/// The part's text, in the folder of a path.
 fn part_beside(alloc: Global, path: &str) -> Result<String, NoMemory> {
     match path.rsplit_once('/') {
         Some((folder, _)) => format!(in alloc; "{folder}/{PART_NAME}"),
@@ -153,7 +151,7 @@ fn part_beside(alloc: Global, path: &str) -> Result<String, NoMemory> {
     }
 }
 
-/// Gives a file its second name; where the system has none, renames it, unless something stands there.
+/// Gives a file its second name, or renames it on a system without such names.
 fn place_once<R: Files>(rt: &R, part: &str, path: &str) -> io::Result<()> {
     match fs::hard_link(rt, part, path) {
         Err(error) if lacks_links(&error) => rename_new(rt, part, path),
@@ -161,7 +159,7 @@ fn place_once<R: Files>(rt: &R, part: &str, path: &str) -> io::Result<()> {
     }
 }
 
-/// Whether it may be that the system gives no file two names.
+/// Whether the system may lack second names.
 fn lacks_links(error: &Error) -> bool {
     matches!(
         error.kind(),
@@ -169,7 +167,7 @@ fn lacks_links(error: &Error) -> bool {
     )
 }
 
-/// Renames a file, where nothing stands under the new name.
+/// Renames a file, unless the new name is taken.
 fn rename_new<R: Files>(rt: &R, part: &str, path: &str) -> io::Result<()> {
     match fs::symlink_metadata(rt, path) {
         Ok(_) => Err(Error::from(ErrorKind::AlreadyExists)),

@@ -1,5 +1,3 @@
-//! The texts of places that a survey names.
-
 ghost use Rattle.oc_bytes.specs.Outcome.{Spells};
 ghost use Rattle.path_tree.specs.Texts.{text_of};
 ghost use Rattle.folder_store.specs.Surveys.{at_in, names_at, view_standing};
@@ -9,9 +7,8 @@ use oc_bytes::NoMemory;
 use path_tree::print_name;
 use std::alloc::Global;
 
-/// The text of the path that a survey names, printed as a path of a carousel is. That of the folder itself is `/`.
-///
-/// Out of memory is the only refusal.
+/// The text of a path that a survey names, as of a carousel's path; `/` for the folder itself.
+/// `Err` is out of memory.
 pub fn place_text(alloc: Global, at: &Option<Standing>) -> Result<String, NoMemory>
     ensures { Spells result (text_of (names_at (at_in at.now))) }
 {
@@ -21,9 +18,7 @@ pub fn place_text(alloc: Global, at: &Option<Standing>) -> Result<String, NoMemo
     }
 }
 
-/// The text of the path at which something stands, as [`place_text`] has it.
-///
-/// Out of memory is the only refusal.
+/// The text of a path, as [`place_text`] has it. `Err` is out of memory.
 pub fn standing_text(alloc: Global, standing: &Standing) -> Result<String, NoMemory>
     ensures { Spells result (text_of (names_at (view_standing standing.now))) }
 {

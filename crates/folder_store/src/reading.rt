@@ -18,16 +18,16 @@ use path_tree::{Edit, MOST_CONTENT, MOST_NAMES, Path};
 use std::alloc::{AllocError, AllocFailed, Global};
 use thiserror::Error;
 
-/// The most bytes that are read of one file: one more than a file of a carousel has, so that a longer one is refused later.
+/// The most bytes read of one file: one more than allowed, so that a commit refuses a longer one.
 pub(crate) const MOST_READ: usize = MOST_CONTENT + 1;
 
-/// Why a folder isn't published: its tree can't be read as edits, or the edits are refused.
+/// Why a folder isn't published.
 #[derive(Debug, Drop, Error)]
 pub enum TreeFault {
-    /// A file or a folder stands below sixteen folders of the one that is published.
+    /// A file or folder is below more than 16 folders.
     #[error("a file or a folder stands below more than 16 folders")]
     TooDeep,
-    /// The name of a file or a folder is no name of a path: it has no byte or more than 254, or a zero byte or a `/` in it.
+    /// A name that no path has: empty, over 254 bytes, or with a zero byte or `/`.
     #[error("a file or a folder has a name that no path has")]
     BadName,
     /// The commit of the edits is refused.
@@ -41,10 +41,10 @@ pub enum ReadTree {
     /// A fault of the outside, or the path is no folder of it.
     #[error("the folder could not be read")]
     FolderFault,
-    /// A file or a folder stands below sixteen folders of the one that is read.
+    /// A file or folder is below more than 16 folders.
     #[error("a file or a folder stands below more than 16 folders")]
     TooDeep,
-    /// The name of a file or a folder has no byte or more than 254, or a zero byte or a `/` in it.
+    /// A name that no path has: empty, over 254 bytes, or with a zero byte or `/`.
     #[error("a file or a folder has a name that no path has")]
     BadName,
     /// There is no memory.
@@ -88,7 +88,7 @@ impl From<FolderFault> for ReadTree {
     }
 }
 
-/// Where a file or a folder stands: its path below the folder that is read, and its path text in the outside.
+/// A file's or folder's path below the folder that is read, and its path text outside.
 #[derive(Drop)]
 pub(crate) struct Place {
     pub(crate) path: Path,
@@ -96,14 +96,15 @@ pub(crate) struct Place {
 }
 
 impl Place {
-    /// The place of a name in the folder that stands here. It is too deep where the folder's path has sixteen names, and
-    /// only then is the name looked at.
+    /// The place of a name in this folder. Depth is checked before the name.
     fn below(&self, alloc: Global, name: &str) -> Result<Place, ReadTree>
+        // What is answered:
         ensures room { OnOk result (length self.now.path < MOST_NAMES) }
         ensures name { OnOk result (is_name name.now ≡ true) }
         ensures path { IfOk result (λ p. p.path ≡ self.now.path ++ name.now ∷ []) }
         ensures text { IfOk result (λ p.
             string_bytes p.text ≡ string_bytes self.now.text ++ 47 ∷ name.now) }
+        // When each error comes:
         ensures too_deep { IsErrOf result ReadTree.TooDeep → length self.now.path ≡ MOST_NAMES }
         ensures bad_name { IsErrOf result ReadTree.BadName
             → (length self.now.path < MOST_NAMES) × (is_name name.now ≡ false) }
@@ -123,14 +124,14 @@ impl Place {
 /// What was read so far.
 #[derive(Drop)]
 pub(crate) struct Gathered {
-    /// An edit for each file, and for each folder in which neither a file nor a folder stands, in the order in which they were met.
+    /// An edit for each file and bare folder, in the order of the walk.
     pub(crate) edits: Vec<Edit>,
-    /// How many bytes the files have in all.
+    /// The files' bytes in all.
     pub(crate) read: u64,
 }
 
 impl Gathered {
-    /// Whether the walk is at its end, since more bytes were read than the limit.
+    /// Whether more bytes were read than the limit, which ends the walk.
     fn is_full(&self) -> bool
         ensures { result ≡ nat_lt MOST_PUT_BYTES self.now.read }
     {
@@ -162,15 +163,17 @@ impl Gathered {
     }
 }
 
-/// The entries of a folder, in the order of their names' bytes.
+/// The entries of a folder, by the bytes of their names.
 fn sorted_entries<F: Folders>(
     alloc: Global,
     folders: &mut F,
     path: &str,
 ) -> Result<Vec<FolderEntry>, ReadTree>
+    // What is answered:
     ensures entries { IfOk result (λ es.
         WhereTold (F.tree folders.old) (λ t.
         IsSortedListing t path.now (map view_entry es.items))) }
+    // When it fails:
     ensures fault { IsErrOf result ReadTree.FolderFault
         → MayFail (Faulted F.faults folders.old folders.new) (F.tree folders.old)
         (IsNoFolder path.now) }
@@ -180,6 +183,7 @@ fn sorted_entries<F: Folders>(
         → IsRefused (F.refused folders.new) path.now }
     ensures not_deep { IsErrOf result ReadTree.TooDeep → ⊥ }
     ensures not_bad { IsErrOf result ReadTree.BadName → ⊥ }
+    // What stays:
     ensures same { F.tree folders.new ≡ F.tree folders.old }
     ensures later { F.faults folders.old ≤ F.faults folders.new }
 {
@@ -196,6 +200,7 @@ fn read_file<F: Folders>(
     gathered: &mut Gathered,
     sights: &mut Sights,
 ) -> Result<(), ReadTree>
+    // What is gathered and seen:
     requires { gathered.old.read ≤ MOST_PUT_BYTES }
     ensures walk { (t : FolderTree) (content : Bytes)
         → F.tree folders.old ≡ Some t
@@ -214,6 +219,7 @@ fn read_file<F: Folders>(
         → (look_in sights.old).large ≡ first_large root gathered.old.edits.items
         → OnOk result ((look_in sights.new).large ≡ first_large root gathered.new.edits.items) }
     ensures at { sights.new.at ≡ sights.old.at }
+    // When it fails:
     ensures failed { IsErrOf result ReadTree.FolderFault
         → IsRefused (F.refused folders.new) (string_bytes place.text) }
     ensures not_deep { IsErrOf result ReadTree.TooDeep → ⊥ }
@@ -225,6 +231,7 @@ fn read_file<F: Folders>(
         → F.tree folders.old ≡ Some t
         → entry_at t (string_bytes place.text) ≡ Some (AFile content)
         → F.strayed folders.new ≡ F.strayed folders.old }
+    // What stays:
     ensures same { F.tree folders.new ≡ F.tree folders.old }
     ensures later { F.faults folders.old ≤ F.faults folders.new }
 {
@@ -234,7 +241,7 @@ fn read_file<F: Folders>(
     Ok(())
 }
 
-/// Adds the edits of what stands below a folder. A folder lies at most sixteen deep, and so do the calls.
+/// Adds the edits of what is below a folder. Folders, and so the calls, are at most 16 deep.
 #[cycle(walk)]
 pub(crate) fn walk_folder<F: Folders>(
     alloc: Global,
@@ -243,6 +250,7 @@ pub(crate) fn walk_folder<F: Folders>(
     gathered: &mut Gathered,
     sights: &mut Sights,
 ) -> Result<(), ReadTree>
+    // What is gathered and seen:
     ensures walk { WhereTold (F.tree folders.old) (λ t.
         Walks
         (met_below t (MOST_NAMES - length place.now.path) place.now.path
@@ -257,6 +265,7 @@ pub(crate) fn walk_folder<F: Folders>(
         → string_bytes place.now.text ≡ text_below root place.now.path
         → (look_in sights.old).large ≡ first_large root gathered.old.edits.items
         → OnOk result ((look_in sights.new).large ≡ first_large root gathered.new.edits.items) }
+    // When it fails:
     ensures named { (root : Bytes)
         → string_bytes place.now.text ≡ text_below root place.now.path
         → text_at root sights.old.at ≡ string_bytes place.now.text
@@ -271,6 +280,7 @@ pub(crate) fn walk_folder<F: Folders>(
     ensures owed { WhereTold (F.tree folders.old) (λ t.
         is_folder_at t (string_bytes place.now.text) ≡ true
         → F.strayed folders.new ≡ F.strayed folders.old) }
+    // What stays:
     ensures same { F.tree folders.new ≡ F.tree folders.old }
     ensures later { F.faults folders.old ≤ F.faults folders.new }
 {
@@ -281,8 +291,7 @@ pub(crate) fn walk_folder<F: Folders>(
     Ok(())
 }
 
-/// Adds the edits of what stands below a folder, or where no edit comes of it, the edit that makes the folder: then neither a file nor a
-/// folder stands in it.
+/// Adds the edits of what is below a folder, or, if there are none, the one that makes it.
 #[cycle(walk)]
 fn walk_below<F: Folders>(
     alloc: Global,
@@ -291,6 +300,7 @@ fn walk_below<F: Folders>(
     gathered: &mut Gathered,
     sights: &mut Sights,
 ) -> Result<(), ReadTree>
+    // What is gathered and seen:
     requires { gathered.old.read ≤ MOST_PUT_BYTES }
     ensures walk { WhereTold (F.tree folders.old) (λ t.
         Walks
@@ -306,6 +316,7 @@ fn walk_below<F: Folders>(
         → string_bytes place.text ≡ text_below root place.path
         → (look_in sights.old).large ≡ first_large root gathered.old.edits.items
         → OnOk result ((look_in sights.new).large ≡ first_large root gathered.new.edits.items) }
+    // When it fails:
     ensures named { (root : Bytes)
         → string_bytes place.text ≡ text_below root place.path
         → text_at root sights.old.at ≡ string_bytes place.text
@@ -317,6 +328,7 @@ fn walk_below<F: Folders>(
     ensures owed { WhereTold (F.tree folders.old) (λ t.
         is_folder_at t (string_bytes place.text) ≡ true
         → F.strayed folders.new ≡ F.strayed folders.old) }
+    // What stays:
     ensures same { F.tree folders.new ≡ F.tree folders.old }
     ensures later { F.faults folders.old ≤ F.faults folders.new }
 {
@@ -328,7 +340,7 @@ fn walk_below<F: Folders>(
     Ok(gathered.make(place.path)?)
 }
 
-/// Adds the edits of one entry of a folder: that of a file, or those of a folder and of what stands below it.
+/// Adds the edits of one entry and what is below it.
 #[cycle(walk)]
 fn walk_entry<F: Folders>(
     alloc: Global,
@@ -338,6 +350,7 @@ fn walk_entry<F: Folders>(
     gathered: &mut Gathered,
     sights: &mut Sights,
 ) -> Result<(), ReadTree>
+    // What is gathered and seen:
     ensures walk { (t : FolderTree) (e : Entry)
         → F.tree folders.old ≡ Some t
         → entry_at t (string_bytes place.now.text ++ 47 ∷ string_bytes entry.now.name) ≡ Some e
@@ -359,6 +372,7 @@ fn walk_entry<F: Folders>(
         → string_bytes place.now.text ≡ text_below root place.now.path
         → (look_in sights.old).large ≡ first_large root gathered.old.edits.items
         → OnOk result ((look_in sights.new).large ≡ first_large root gathered.new.edits.items) }
+    // When it fails:
     ensures named { (root : Bytes)
         → string_bytes place.now.text ≡ text_below root place.now.path
         → IsErrOf result ReadTree.FolderFault
@@ -372,6 +386,7 @@ fn walk_entry<F: Folders>(
         kind_at t (string_bytes place.now.text ++ 47 ∷ string_bytes entry.now.name)
         ≡ Some entry.now.kind
         → F.strayed folders.new ≡ F.strayed folders.old) }
+    // What stays:
     ensures same { F.tree folders.new ≡ F.tree folders.old }
     ensures later { F.faults folders.old ≤ F.faults folders.new }
 {
@@ -393,30 +408,27 @@ fn walk_entry<F: Folders>(
     }
 }
 
-/// Reads a folder of the outside as edits: one `Put` for each file below `root`, and one `MakeFolder` for each folder below it
-/// in which neither a file nor a folder stands, in the order of paths, with the names from `root` on as the path. The bytes of
-/// a file aren't copied again.
+/// Reads a folder as edits: a `Put` for each file, a `MakeFolder` for each bare folder, in the
+/// order of paths from `root` on.
 ///
-/// `root` is listed, and below it the path text of a file or a folder is its folder's text, `/` and its name. The entries of
-/// a folder are taken by the bytes of their names, a folder's content at its place. Links and other kinds are passed over,
-/// so that a folder in which nothing else stands is made. Of a file one byte more than
-/// [`MOST_CONTENT`] is read at most. After the file at which more than [`MOST_PUT_BYTES`] are read in all, the walk ends.
+/// A path text is its folder's text, `/` and its name. Links and other kinds are passed over, so a
+/// folder with only these is bare. At most [`MOST_CONTENT`] bytes and one are read of a file. The
+/// walk ends after the file at which more than [`MOST_PUT_BYTES`] are read in all.
 ///
-/// The walk refuses the first entry that it can't take, and then alone. It is `TooDeep` where sixteen names lead to its folder
-/// already, whether it is a file or a folder. Else it is a `BadName` where its name is none of a path: without a byte, of 255
-/// bytes or more, with a zero byte or a `/` in it. `FolderFault` comes only where the count of faults rose in this call, or stands at the greatest u64, or where the
-/// tree is known and `root` is no folder of it, and always in this last case. Where the tree is known and `root` is a folder of it, no
-/// folder and no file is asked for that isn't there. Out of memory aside, there is no other refusal.
-/// These rules are this project's own.
+/// The first entry that can't be taken ends the walk: `TooDeep` if its folder has 16 names already,
+/// else `BadName`. `FolderFault` comes as [`FolderFault::Failed`] does, and always if the tree is
+/// known and `root` is no folder.
 pub fn read_tree<F: Folders>(
     alloc: Global,
     folders: &mut F,
     root: &str,
 ) -> Result<Vec<Edit>, ReadTree>
+    // What is answered:
     ensures edits { IfOk result (λ es.
         WhereTold (F.tree folders.old) (λ t. edits_of t root.now ≡ Ok es.items)) }
     ensures files { IfOk result (λ es.
         WhereTold (F.tree folders.old) (λ t. IsFolderTree t → PutsFiles t root.now es.items)) }
+    // When each error comes:
     ensures too_deep { IsErrOf result ReadTree.TooDeep
         → WhereTold (F.tree folders.old) (λ t. edits_of t root.now ≡ Err IsTooDeep) }
     ensures bad_name { IsErrOf result ReadTree.BadName
@@ -427,6 +439,7 @@ pub fn read_tree<F: Folders>(
     ensures no_folder { WhereTold (F.tree folders.old) (λ t.
         is_folder_at t root.now ≡ false
         → (result ≡ Err ReadTree.FolderFault) ⊎ (result ≡ Err ReadTree.NoMemory)) }
+    // What is asked for, and what stays:
     ensures owed { WhereTold (F.tree folders.old) (λ t.
         is_folder_at t root.now ≡ true → F.strayed folders.new ≡ F.strayed folders.old) }
     ensures same { F.tree folders.new ≡ F.tree folders.old }

@@ -13,28 +13,27 @@ use std::io::{Error, ErrorKind};
 use std::rt::Files;
 use std::{fs, io};
 
-/// How often one call is tried, where a signal interrupts it: once, and 16 times again.
+/// How often one call is tried if signals interrupt it.
 pub(crate) const TRIES: u32 = 17;
 
 /// The most bytes that one read of a file asks for.
 const PIECE: usize = 65_536;
 
-/// Folders of the system as [`Folders`]. What stands there isn't known.
+/// Folders of the system as [`Folders`], of unknown content.
 ///
-/// Each error that the system answers raises the count of faults. A call that a signal interrupts is
-/// repeated at most 16 times. A path text is the system's, from the current folder on where it doesn't
-/// begin with `/`. A link in a listed folder is an [`EntryKind::Other`], whatever it leads to. A folder
-/// in which a name isn't UTF-8 isn't listed: that counts as an error of the system.
+/// Each error of the system counts as a fault. A call that a signal interrupts is repeated at most
+/// 16 times. Path texts are the system's. A link is an [`EntryKind::Other`]. A folder with a name
+/// that isn't UTF-8 isn't listed: that counts as an error.
 #[derive(Drop)]
 pub struct OsFolders<R: Drop> {
     rt: R,
     faults: u64,
-    /// The path text of the last call that failed, where there was memory to keep it. Only contracts speak of it.
+    /// The last path text that failed, if there was memory. Only contracts speak of it.
     refused: Option<String>,
 }
 
 impl<R: Files + Drop> OsFolders<R> {
-    /// The folders that this runtime reaches, with no fault counted yet.
+    /// The folders that this runtime reaches, without faults.
     pub fn new(rt: R) -> OsFolders<R>
         ensures { result.faults ≡ 0 }
     {
@@ -68,7 +67,7 @@ impl<R: Files + Drop> OsFolders<R> {
         }
     }
 
-    /// Opens a file, and says how many bytes it seems to have.
+    /// Opens a file; the number is how many bytes it seems to have.
     fn open(&mut self, alloc: Global, path: &str) -> Result<(R::File, u64), FolderFault>
         ensures later { self.old.faults ≤ self.new.faults }
         ensures cause { IsErrOf result FolderFault.Failed → Rose self.old.faults self.new.faults }
@@ -144,7 +143,6 @@ fn list_once<R: Files + Clone + Drop>(
     told_entries(alloc, entries)
 }
 
-/// All entries of a folder that was opened.
 fn told_entries<F: Files + Clone + Drop>(
     alloc: Global,
     entries: ReadDir<F>,
@@ -156,7 +154,6 @@ fn told_entries<F: Files + Clone + Drop>(
     Ok(found)
 }
 
-/// An entry's name and kind, unless the system failed to tell it.
 fn told_entry<F: Files + Drop>(
     alloc: Global,
     entry: io::Result<DirEntry<F>>,
@@ -177,7 +174,7 @@ fn kind_of(file_type: FileType) -> EntryKind {
     }
 }
 
-/// The first `most` bytes of a source, or all where it has fewer; it seems to have `len` bytes.
+/// The first `most` bytes of a source, which seems to have `len`.
 fn read_front<S: Source>(
     alloc: Global,
     source: &mut S,
@@ -196,7 +193,7 @@ fn read_front<S: Source>(
     read_pieces(source, &mut piece, bytes, most)
 }
 
-/// The same, by way of a piece and into a `Vec` that is empty.
+/// The same, through a piece.
 fn read_pieces<S: Source>(
     source: &mut S,
     piece: &mut [u8],
@@ -221,14 +218,16 @@ fn read_pieces<S: Source>(
     Ok(bytes)
 }
 
-/// One read of at most `most` bytes, which are at least one, into the front of a piece.
+/// One read of at most `most` bytes.
 fn read_piece<S: Source>(
     source: &mut S,
     piece: &mut [u8],
     most: usize,
 ) -> Result<usize, FolderFault>
+    // What callers give:
     requires room { 0 < length piece.old }
     requires most { 0 < most }
+    // What is read, and when it fails:
     ensures within { IfOk result (λ n. (n ≤ most) × (n ≤ length piece.old)) }
     ensures read { IfOk result (λ n.
         Known (S.left source.old) (S.left source.new) (λ before after.

@@ -7,17 +7,16 @@ use oc_bytes::NoMemory;
 use path_tree::{MOST_CONTENT, Path};
 use std::alloc::Global;
 
-/// What stands in a folder under a name.
+/// What is in a folder under a name.
 #[derive(Drop)]
 pub struct Standing {
     /// The path of the folder, below the one that is read.
     pub folder: Path,
-    /// The name, which may be none of a path.
+    /// The name, which no path may have.
     pub name: String,
 }
 
 impl Standing {
-    /// What stands in the folder `folder` under the name `name`.
     fn new(alloc: Global, folder: &Path, name: &str) -> Result<Standing, NoMemory>
         ensures folder { IfOk result (λ s. s.folder ≡ folder.now) }
         ensures name { IfOk result (λ s. string_bytes s.name ≡ name.now) }
@@ -29,19 +28,19 @@ impl Standing {
     }
 }
 
-/// What a walk came by beside the files.
+/// What a walk met besides the files.
 #[derive(Drop)]
 pub(crate) struct Sights {
     /// What was passed over.
     pub(crate) left: Vec<Standing>,
-    /// The path text of the first file that has more than [`MOST_CONTENT`] bytes.
+    /// The path text of the first file of more than [`MOST_CONTENT`] bytes.
     pub(crate) large: Option<String>,
-    /// The file or the folder that the walk came to last.
+    /// The file or folder that the walk came to last.
     pub(crate) at: Option<Standing>,
 }
 
 impl Sights {
-    /// Comes to a file or a folder.
+    /// Comes to a file or folder.
     pub(crate) fn reach(&mut self, alloc: Global, folder: &Path, name: &str) -> Result<(), NoMemory>
         ensures at { OnOk result (at_in self.new.at ≡ (folder.now, name.now)) }
         ensures names { OnOk result (names_to self.new.at ≡ folder.now ++ name.now ∷ []) }
@@ -51,7 +50,7 @@ impl Sights {
         Ok(())
     }
 
-    /// Passes an entry over.
+    /// Passes over an entry.
     pub(crate) fn pass(&mut self, alloc: Global, folder: &Path, name: &str) -> Result<(), NoMemory>
         ensures left { OnOk result
             (map view_standing self.new.left.items
@@ -62,7 +61,7 @@ impl Sights {
         Ok(())
     }
 
-    /// Notes the path text of a file of which so many bytes were read.
+    /// Notes a file of which this many bytes were read.
     pub(crate) fn note(&mut self, text: String, read: usize)
         ensures look { look_in self.new ≡ with_file (look_in self.old) (string_bytes text) read }
         ensures at { self.new.at ≡ self.old.at }

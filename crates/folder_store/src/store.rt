@@ -4,12 +4,11 @@ ghost use Rattle.oc_bytes.specs.Outcome.{Faulted};
 use std::alloc::{AllocError, AllocFailed, Global};
 use thiserror::Error;
 
-/// Why a file or a folder wasn't written.
+/// Why a file or folder wasn't written.
 #[derive(Clone, Copy, Debug, PartialEq, Eq, Error)]
 pub enum StoreFault {
-    /// The system answered with an error, or something stands under the path already, or the folder above it isn't there. It comes
-    /// only where the count of faults rose in this call, or stands at its type's end, or where the tree is known and the path
-    /// can't be added to it.
+    /// The system answered with an error, and the count of faults rose unless it is saturated. Or
+    /// the tree is known, and the path is taken or lacks the folder above it.
     #[error("the file or the folder could not be written")]
     Failed,
     /// There is no memory.
@@ -39,16 +38,15 @@ impl<T: Drop> From<AllocFailed<T>> for StoreFault {
     }
 }
 
-/// Folders of the outside into which files and folders are written. This trait is this project's own.
+/// Folders of the outside into which files and folders are written.
 ///
-/// A path text is that of [`Folders`](crate::Folders): names, the outermost first, with a `/` between two of them. A call adds one
-/// entry where nothing stands, and changes nothing that stands there; after a fault nothing was added. A file is there whole or not
-/// at all. No call changes whether the tree is known.
+/// A path text is that of [`Folders`](crate::Folders). A call only adds one entry, whole or not at
+/// all. No call changes whether the tree is known.
 pub trait Store {
     ghost use Rattle.folder_store.specs.Folders.{AFile, AFolder, FolderTree, MayFail};
     ghost use Rattle.folder_store.specs.Stores.{can_add, with_entries};
 
-    /// What stands there, where it is known.
+    /// The tree, if it is known.
     ghost tree: { Self → Option FolderTree };
 
     /// How often a call failed. It never falls.
@@ -76,7 +74,7 @@ pub trait Store {
             → MayFail (Faulted faults self.old self.new) (tree self.old) (λ t.
             can_add t path.now ≡ false) };
 
-    /// The count of faults, which stays at the greatest `u64`.
+    /// The count of faults, saturating.
     fn faults(&self) -> u64
         ensures { result ≡ faults self.now };
 }

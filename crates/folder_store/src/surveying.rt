@@ -15,11 +15,11 @@ use std::alloc::{AllocError, Global};
 /// What a folder holds, as publishing takes it.
 #[derive(Drop)]
 pub struct Surveyed {
-    /// One `Put` for each file, and one `MakeFolder` for each folder in which neither a file nor a folder stands, in the order of paths.
+    /// What [`read_tree`](crate::read_tree) answers.
     pub edits: Vec<Edit>,
-    /// What was passed over, links and other kinds, in the order of paths.
+    /// The links and other kinds that were passed over, in the order of paths.
     pub left: Vec<Standing>,
-    /// The path text of the first file that has more than [`path_tree::MOST_CONTENT`] bytes.
+    /// The path text of the first file of more than [`path_tree::MOST_CONTENT`] bytes.
     pub large: Option<String>,
 }
 
@@ -28,7 +28,7 @@ pub struct Surveyed {
 pub struct SurveyFault {
     /// What [`read_tree`](crate::read_tree) answers.
     pub cause: ReadTree,
-    /// The file or the folder that breaks the rule or couldn't be read; none where that is the folder itself that is surveyed.
+    /// The file or folder at fault; none for the surveyed folder itself.
     pub at: Option<Standing>,
 }
 
@@ -46,18 +46,18 @@ impl From<AllocError> for SurveyFault {
     }
 }
 
-/// Reads a folder of the outside as edits, as [`read_tree`](crate::read_tree) does, and tells beside them what was passed over and which file
-/// is too large, or else which file or folder is at fault.
+/// Reads a folder as [`read_tree`](crate::read_tree) does, and answers also what was passed over
+/// and which file is too large, or what is at fault.
 ///
-/// Where no more than [`generation_catalogue::MOST_PUT_BYTES`] are read, all that is passed over below `root` is told, and the
-/// first file of more than [`path_tree::MOST_CONTENT`] bytes. Where a rule is broken, `at` is the first entry in the order of paths that
-/// breaks one. After a `FolderFault` it is what the walk came to last, whose path text is the one that was refused. These rules are this
-/// project's own.
+/// The answer is complete if at most [`generation_catalogue::MOST_PUT_BYTES`] are read. `at` is the
+/// first entry in the order of paths that breaks a rule. After a `FolderFault` it is what the walk
+/// came to last.
 pub fn survey<F: Folders>(
     alloc: Global,
     folders: &mut F,
     root: &str,
 ) -> Result<Surveyed, SurveyFault>
+    // What is answered:
     ensures edits { IfOk result (λ s.
         WhereTold (F.tree folders.old) (λ t. edits_of t root.now ≡ Ok s.edits.items)) }
     ensures look { IfOk result (λ s.
@@ -65,6 +65,7 @@ pub fn survey<F: Folders>(
         nat_lt MOST_PUT_BYTES (put_bytes s.edits.items) ≡ false
         → survey_of t root.now ≡ Ok (view_survey s))) }
     ensures large { IfOk result (λ s. (view_survey s).large ≡ first_large root.now s.edits.items) }
+    // When each error comes, and what it names:
     ensures too_deep { IfErr result (λ f.
         f.cause ≡ ReadTree.TooDeep
         → WhereTold (F.tree folders.old) (λ t.
@@ -83,6 +84,7 @@ pub fn survey<F: Folders>(
     ensures no_folder { WhereTold (F.tree folders.old) (λ t.
         is_folder_at t root.now ≡ false
         → IsErrAnd result (λ f. (f.cause ≡ ReadTree.FolderFault) ⊎ (f.cause ≡ ReadTree.NoMemory))) }
+    // What is asked for, and what stays:
     ensures owed { WhereTold (F.tree folders.old) (λ t.
         is_folder_at t root.now ≡ true → F.strayed folders.new ≡ F.strayed folders.old) }
     ensures same { F.tree folders.new ≡ F.tree folders.old }
