@@ -9,7 +9,7 @@ use std::alloc::AllocError;
 use std::marker::Model;
 use std::sync::Arc;
 
-/// A file's content in a shared module. No byte is copied.
+/// A file's content in a shared module.
 #[derive(Drop)]
 pub struct FileRef {
     module: Arc<Module>,
@@ -46,7 +46,7 @@ impl FileRef {
         &bytes[self.span.first..self.span.first + self.span.length]
     }
 
-    /// The same bytes in the same module. `Err` is out of memory.
+    /// The same file. `Err` is out of memory.
     pub fn share(&self) -> Result<FileRef, NoMemory>
         ensures { IfOk result (λ r. r ≡ self.now) }
     {
@@ -58,8 +58,7 @@ impl FileRef {
     }
 }
 
-/// A folder's names in a shared module, in the order of its bindings, repeated ones too. No name is
-/// copied.
+/// A folder's names in a shared module, in the order of its bindings, repeated ones too.
 #[derive(Drop)]
 pub struct FolderRef {
     module: Arc<Module>,
@@ -112,7 +111,7 @@ impl FolderRef {
         self.module.is_first(self.folder, i)
     }
 
-    /// The same names in the same module. `Err` is out of memory.
+    /// The same folder. `Err` is out of memory.
     pub fn share(&self) -> Result<FolderRef, NoMemory>
         ensures { IfOk result (λ r. r ≡ self.now) }
     {

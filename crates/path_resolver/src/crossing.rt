@@ -1,10 +1,8 @@
-//! Proves Send and Sync of what threads share.
-
 use crate::{Answer, FileRef, FolderRef, Shot};
 
 fn crosses<T: Send + Sync>() {}
 
-/// Shots and answers cross threads.
+/// Shots and answers are Send and Sync.
 pub fn cross_threads() {
     crosses::<FileRef>();
     crosses::<FolderRef>();

@@ -19,7 +19,8 @@ pub struct Listed<'a> {
     pub module: Option<&'a Arc<Module>>,
 }
 
-/// What paths are answered on: a shot or a receiver. No call takes memory.
+/// What paths are answered on: a shot or a receiver. No call takes memory. Identifications are 0 to
+/// 32,767.
 pub trait Holding {
     ghost use Rattle.path_resolver.specs.Resolving.{Held as HeldState};
 

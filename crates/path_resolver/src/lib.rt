@@ -1,7 +1,7 @@
 //! Shots of a receiver, and answers to paths on a shot or on the receiver itself.
 //!
-//! A path is resolved on what is held at one moment. No byte or name is copied. The order in which
-//! faults are looked for, and `same`, are this project's own.
+//! A path is resolved on what is held at one moment, without a copy. The order of the answers, and
+//! `same`, are this project's own.
 //!
 //! A receiver has heard where the gateway is, and nothing yet of its module:
 //!

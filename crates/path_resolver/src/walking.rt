@@ -211,9 +211,8 @@ fn home_from<H: Holding>(held: &H, gateway: &Gateway, path: &Path) -> Option<u16
     Some(target.location.module)
 }
 
-/// The id of the module that has, or will bring, a path's object: the last location of the walk
-/// along all names. `None` if the walk ends before it, or no gateway or DII is held. It takes no
-/// memory.
+/// The id of the module that has, or will bring, a path's object: that of the walk's last location.
+/// `None` if the walk ends earlier, or no gateway or DII is held. It takes no memory.
 pub fn home_of(shot: &Shot, path: &Path) -> Option<u16>
     ensures { result ≡ places.home_of (held_of shot.now) path.now }
 {
@@ -225,9 +224,8 @@ pub fn home_of(shot: &Shot, path: &Path) -> Option<u16>
 
 /// The answer to the whole path on one shot (ETSI TR 101 202, 4.7.4 and 4.7.5).
 ///
-/// It walks from the gateway along all names. A file or folder shares its module; only there memory
-/// can run out. Without a gateway or a label the answer is `NoCarousel`. At each location the first
-/// of these that applies is the answer:
+/// `Err` is out of memory. The walk goes from the gateway along all names. Without a gateway or a
+/// label the answer is `NoCarousel`. At each location the first of these that applies decides:
 ///
 /// - `Elsewhere`: another carousel, or a known delivery of identification 0.
 /// - `NotYet`: no DII of the known delivery is held; `Dangling`: that DII doesn't list the module.
@@ -236,8 +234,7 @@ pub fn home_of(shot: &Shot, path: &Path) -> Option<u16>
 /// - `Bad`, `Dangling` or `OtherKind`: the module has no file or folder of the key.
 /// - `File` if no name is left, else `NoSuch`.
 /// - `Folder` if no name is left. Else the first binding of the next name leads on: `NoSuch` if
-///   there
-/// is none, `Elsewhere` if its IOR has no location.
+///   there is none, `Elsewhere` if its IOR has no location.
 pub fn resolve(shot: &Shot, path: &Path) -> Result<Answer, NoMemory>
     ensures answer { IfOk result (λ a. a ≡ answers_of shot.now path.now) }
     ensures memory { OnErr result (IsTrue (is_shared (answers_of shot.now path.now))) }
@@ -245,8 +242,7 @@ pub fn resolve(shot: &Shot, path: &Path) -> Result<Answer, NoMemory>
     answer_on(shot, path)
 }
 
-/// The answer on what is held, by the rules of `resolve`, without a shot. Each step looks up one
-/// module.
+/// The answer by the rules of `resolve`, without a shot. Each step looks up one module.
 pub fn answer_on<H: Holding>(held: &H, path: &Path) -> Result<Answer, NoMemory>
     ensures answer { IfOk result (λ a. a ≡ answer_of (H.state held.now) path.now) }
     ensures memory { OnErr result (IsTrue (is_shared (answer_of (H.state held.now) path.now))) }
