@@ -275,7 +275,7 @@ fn put_binding(out: &mut Writer, entry: &Written) -> Result<(), NoMemory>
     Ok(())
 }
 
-/// The one name component: the name, a zero byte, and how long a kind follows.
+/// The one name component: the name and a zero byte, then the kind's length.
 fn put_id(out: &mut Writer, name: &[u8]) -> Result<(), NoMemory>
     requires { length name.now ≤ 254 }
     ensures { OnOk result
