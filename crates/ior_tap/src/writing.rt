@@ -47,8 +47,8 @@ pub fn delivery_of_module(id: u16) -> u32
     DSI_TRANSACTION + 2 * u32::from(group_of(id))
 }
 
-/// Puts what `encode` gives for an IOR of this kind and location, each with the sizes it asks for.
-/// `Err` is out of memory.
+/// Puts what `encode` gives for an IOR of this kind, 4 bytes, and this location. `Err` is out of
+/// memory.
 pub fn put_reference(out: &mut Writer, kind: &[u8], location: &Location) -> Result<(), NoMemory>
     requires key { length location.now.key ≡ 4 }
     requires listed { (1 ≤ location.now.module) × (location.now.module ≤ GREATEST_ID) }
