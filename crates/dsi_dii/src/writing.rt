@@ -65,7 +65,8 @@ fn put_head(writer: &mut Writer, download: u32, modules: u16) -> Result<(), NoMe
     Ok(())
 }
 
-/// The one spelling of a DII, as a section's payload.
+/// The one spelling of a DII of block size [`BLOCK_SIZE`] and no compressed module, as a section's
+/// payload.
 ///
 /// The windows are 0; there are no descriptors and no private data.
 pub fn encode_dii(alloc: Global, dii: &Dii) -> Result<Vec<u8>, DiiFault>
