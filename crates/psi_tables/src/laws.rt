@@ -7,13 +7,13 @@ pub fn one_section_lists_its_lines()
 {}
 
 /// Every PAT section is the same, of number 0, and each listed program has one map table, which
-/// names the carousel at PID q or not at all. Then the answer is no PAT, nothing, or q.
+/// names the carousel at PID q or not at all. Then the answer is `NoPat`, `NotNamed` or q.
 pub fn it_is_nowhere_else()
     ensures { IsNowhereElse }
 {}
 
-/// In such a stream the answer is q once the PAT came, and then a naming map table on its followed
-/// PID.
+/// In such a stream the answer is q once the PAT came, and then a map table that names the
+/// carousel on its followed PID.
 pub fn it_is_found_once_its_tables_came()
     ensures { IsFoundOnceItCame }
 {}

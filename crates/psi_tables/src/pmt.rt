@@ -149,7 +149,7 @@ fn checked(bytes: &[u8]) -> Result<(Frame<'_>, &[u8]), Cut>
 /// - 1: section_syntax_indicator 1; section_length, the bytes after it, at most 1,021;
 /// - 5: current_next_indicator 1;
 /// - the program's descriptors, a stream's five bytes or its descriptors that don't fit, at their
-/// first byte; a wrong CRC, at its own.
+///   first byte; a wrong CRC, at its own.
 ///
 /// Other fields may have any value. In a stream of type 0x0B each whole descriptor of tag 0x13
 /// begins with a carousel's id; one of under 4 bytes, or that runs past the end, is ignored.
