@@ -56,7 +56,7 @@ impl Source for MemSource {
         ensures read { IfOk result (λ n.
             Known (Some (left_of self.old)) (Some (left_of self.new)) (λ before after.
             Takes before after into.new n)) }
-        // What a failed read leaves:
+        // What a failed read leaves, and the count of faults:
         ensures nothing { OnErr result (Some (left_of self.new) ≡ Some (left_of self.old)) }
         ensures later { reads_failed self.old ≤ reads_failed self.new }
         ensures cause { OnErr result (Faulted reads_failed self.old self.new) }
