@@ -56,7 +56,8 @@ pub const ASSOCIATION_TAG: u16 = 0x0001;
 /// ETSI TR 101 202, clause 4.7.2).
 pub const DELIVERY_USE: u16 = 0x0016;
 
-/// The use of a tap for blocks, BIOP_OBJECT_USE (clauses as above).
+/// The use of a tap for blocks, BIOP_OBJECT_USE (ISO/IEC 13818-6, clause
+/// 11.3; ETSI TR 101 202, clause 4.7.2).
 pub const BLOCK_USE: u16 = 0x0017;
 
 /// The transactionId of each DSI: made by the network, all else 0. Those of DIIs begin so (ISO/IEC
