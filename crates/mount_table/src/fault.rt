@@ -5,7 +5,7 @@ use thiserror::Error;
 /// such rule in this order.
 #[derive(Clone, Copy, Debug, PartialEq, Eq, Error)]
 pub enum TableFault {
-    /// There are more than [`MOST_MOUNTS`](crate::MOST_MOUNTS) mounts.
+    /// There are more than [`MOST_MOUNTS`](crate::MOST_MOUNTS) mounts, whatever they are.
     #[error("more than 16 mounts")]
     TooMany,
     /// The name isn't 1 to [`MOST_NAME`](crate::MOST_NAME) lower case letters or digits.
