@@ -81,7 +81,7 @@ pub trait Folders {
         ensures later { faults self.old ≤ faults self.new }
         ensures cause { IsErrOf result FolderFault.Failed
             → MayFail (Faulted faults self.old self.new) (tree self.old) (IsNoFolder path.now) }
-        // What was asked for in vain, and what is kept of it:
+        // What is noted of a wrong path:
         ensures owed { WhereTold (tree self.old) (λ t.
             is_folder_at t path.now ≡ true → strayed self.new ≡ strayed self.old) }
         ensures strays { WhereTold (tree self.old) (λ t.
@@ -101,7 +101,7 @@ pub trait Folders {
         ensures cause { IsErrOf result FolderFault.Failed
             → MayFail (Faulted faults self.old self.new) (tree self.old) (λ t.
             content_of (entry_at t path.now) ≡ None) }
-        // What was asked for in vain, and what is kept of it:
+        // What is noted of a wrong path:
         ensures owed { WhereTold (tree self.old) (λ t.
             is_some (content_of (entry_at t path.now)) ≡ true
             → strayed self.new ≡ strayed self.old) }

@@ -116,7 +116,7 @@ impl Store for MemStore {
     ghost faults = { λ s. store_faults s };
 
     fn make_folder(&mut self, alloc: Global, path: &str) -> Result<(), StoreFault>
-        // What each store promises:
+        // What `Store` promises:
         ensures made { OnOk result
             (Some (stored_in self.new)
             ≡ with_entries (Some (stored_in self.old)) ((path.now, AFolder) ∷ [])) }
@@ -145,7 +145,7 @@ impl Store for MemStore {
     }
 
     fn write_new(&mut self, alloc: Global, path: &str, bytes: &[u8]) -> Result<(), StoreFault>
-        // What each store promises:
+        // What `Store` promises:
         ensures written { OnOk result
             (Some (stored_in self.new)
             ≡ with_entries (Some (stored_in self.old)) ((path.now, AFile bytes.now) ∷ [])) }

@@ -94,7 +94,7 @@ impl Folders for MemFolders {
     ghost refused = { last_refused };
 
     fn list(&mut self, alloc: Global, path: &str) -> Result<Vec<FolderEntry>, FolderFault>
-        // What each source of folders promises:
+        // What `Folders` promises:
         ensures same { Some (tree_in self.new) ≡ Some (tree_in self.old) }
         ensures entries { IfOk result (λ es.
             WhereTold (Some (tree_in self.old)) (λ t.
@@ -132,7 +132,7 @@ impl Folders for MemFolders {
     }
 
     fn read(&mut self, alloc: Global, path: &str, most: usize) -> Result<Vec<u8>, FolderFault>
-        // What each source of folders promises:
+        // What `Folders` promises:
         ensures same { Some (tree_in self.new) ≡ Some (tree_in self.old) }
         ensures bytes { IfOk result (λ bs.
             WhereTold (Some (tree_in self.old)) (λ t. IsRead t path.now most bs.items)) }

@@ -19,8 +19,9 @@ pub const PART_NAME: &str = ".carousel-part";
 /// 16 times. Path texts are the system's.
 ///
 /// A file is written as [`PART_NAME`] in its folder. It gets its own name as a second one, which
-/// the system refuses if anything, even a link, is there. Then the first name is removed. A system
-/// without second names renames the file after finding its place free. No call waits for the disk.
+/// the system refuses if anything, even a link, is there. Then the first name is removed. If the
+/// system has no second names, the file is renamed once its place is found free. No call waits for
+/// the disk, so nothing is promised of a machine that stops.
 #[derive(Drop)]
 pub struct OsStore<R: Drop> {
     rt: R,

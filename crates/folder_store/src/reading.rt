@@ -24,7 +24,7 @@ pub(crate) const MOST_READ: usize = MOST_CONTENT + 1;
 /// Why a folder isn't published.
 #[derive(Debug, Drop, Error)]
 pub enum TreeFault {
-    /// A file or folder is below more than 16 folders.
+    /// A file or folder would have a path of more than 16 names.
     #[error("a file or a folder stands below more than 16 folders")]
     TooDeep,
     /// A name that no path has: empty, over 254 bytes, or with a zero byte or `/`.
@@ -41,7 +41,7 @@ pub enum ReadTree {
     /// A fault of the outside, or the path is no folder of it.
     #[error("the folder could not be read")]
     FolderFault,
-    /// A file or folder is below more than 16 folders.
+    /// A file or folder would have a path of more than 16 names.
     #[error("a file or a folder stands below more than 16 folders")]
     TooDeep,
     /// A name that no path has: empty, over 254 bytes, or with a zero byte or `/`.
@@ -138,7 +138,6 @@ impl Gathered {
         self.read > MOST_PUT_BYTES
     }
 
-    /// Adds the edit that puts a file.
     fn add(&mut self, alloc: Global, path: Path, content: Vec<u8>) -> Result<(), NoMemory>
         ensures edits { OnOk result
             (self.new.edits.items ≡ self.old.edits.items ++ Edit.Put path content.items ∷ []) }
@@ -152,7 +151,6 @@ impl Gathered {
         Ok(())
     }
 
-    /// Adds the edit that makes a folder.
     fn make(&mut self, folder: Path) -> Result<(), NoMemory>
         ensures edits { OnOk result
             (self.new.edits.items ≡ self.old.edits.items ++ Edit.MakeFolder folder ∷ []) }
@@ -192,7 +190,6 @@ fn sorted_entries<F: Folders>(
     Ok(entries)
 }
 
-/// Reads a file and adds its edit.
 fn read_file<F: Folders>(
     alloc: Global,
     folders: &mut F,
@@ -200,7 +197,7 @@ fn read_file<F: Folders>(
     gathered: &mut Gathered,
     sights: &mut Sights,
 ) -> Result<(), ReadTree>
-    // What is gathered and seen:
+    // What is gathered:
     requires { gathered.old.read ≤ MOST_PUT_BYTES }
     ensures walk { (t : FolderTree) (content : Bytes)
         → F.tree folders.old ≡ Some t
@@ -250,7 +247,7 @@ pub(crate) fn walk_folder<F: Folders>(
     gathered: &mut Gathered,
     sights: &mut Sights,
 ) -> Result<(), ReadTree>
-    // What is gathered and seen:
+    // What is gathered:
     ensures walk { WhereTold (F.tree folders.old) (λ t.
         Walks
         (met_below t (MOST_NAMES - length place.now.path) place.now.path
@@ -300,7 +297,7 @@ fn walk_below<F: Folders>(
     gathered: &mut Gathered,
     sights: &mut Sights,
 ) -> Result<(), ReadTree>
-    // What is gathered and seen:
+    // What is gathered:
     requires { gathered.old.read ≤ MOST_PUT_BYTES }
     ensures walk { WhereTold (F.tree folders.old) (λ t.
         Walks
@@ -350,7 +347,7 @@ fn walk_entry<F: Folders>(
     gathered: &mut Gathered,
     sights: &mut Sights,
 ) -> Result<(), ReadTree>
-    // What is gathered and seen:
+    // What is gathered:
     ensures walk { (t : FolderTree) (e : Entry)
         → F.tree folders.old ≡ Some t
         → entry_at t (string_bytes place.now.text ++ 47 ∷ string_bytes entry.now.name) ≡ Some e
