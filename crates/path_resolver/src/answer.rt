@@ -136,8 +136,8 @@ pub enum Answer {
     NotYet(u16),
     /// No gateway or no DII was heard yet.
     NoCarousel,
-    /// The walk leads to another carousel, to a delivery of identification 0 (no DII that lists
-    /// modules has it), or to an IOR without a location.
+    /// The walk leads to another carousel, to a delivery of identification 0, which no DII has, or
+    /// to an IOR without a location.
     Elsewhere,
     /// The walk needs this module, which is sent compressed.
     Compressed(u16),

@@ -5,7 +5,7 @@ ghost use Rattle.path_resolver.specs.Comparing.{same_answer, same_names};
 use crate::answer::{Answer, FolderRef};
 
 /// Whether two answers have the same variant, numbers, bytes, and names in order, whichever module
-/// or shot has them. It takes no memory.
+/// or shot has them.
 pub fn same(a: &Answer, b: &Answer) -> bool
     ensures equal { IsTrue result ↔ (a.now ≡ b.now) }
     ensures test { result ≡ same_answer a.now b.now }

@@ -1,9 +1,8 @@
-//! Shots of a receiver, and answers to paths on a shot or on the receiver itself.
+//! Shots of a receiver, and answers to paths, without a copy, on a shot or on the receiver itself.
 //!
-//! A path is resolved on what is held at one moment, without a copy. The order of the answers, and
-//! `same`, are this project's own.
+//! The order of the answers, and `same`, are this project's own.
 //!
-//! A receiver has heard where the gateway is, and nothing yet of its module:
+//! The gateway was heard, and nothing yet of its module:
 //!
 //! ```
 //! use dsi_dii::ModuleLine;

@@ -40,7 +40,7 @@ pub struct Shot {
     pub held: Vec<u16>,
     /// The gateway, if a DSI is held.
     pub gateway: Option<Gateway>,
-    /// The modules of these DIIs, DII by DII, each in its DII's order. Each identification is in
-    /// `held`; a shot made otherwise answers by its table.
+    /// The modules of these DIIs, in order. Each identification is in `held`; if not, the table
+    /// decides.
     pub table: Vec<Held>,
 }

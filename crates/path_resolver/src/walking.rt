@@ -20,7 +20,7 @@ use oc_bytes::NoMemory;
 use path_tree::Path;
 use std::sync::Arc;
 
-/// A location on the way. The transactionId is that of the DII that delivers it, if known.
+/// A location, and the transactionId of the DII that delivers it.
 #[derive(Drop)]
 struct Target<'a> {
     location: &'a Location,
@@ -212,7 +212,7 @@ fn home_from<H: Holding>(held: &H, gateway: &Gateway, path: &Path) -> Option<u16
 }
 
 /// The id of the module that has, or will bring, a path's object: that of the walk's last location.
-/// `None` if the walk ends earlier, or no gateway or DII is held. It takes no memory.
+/// `None` if the walk ends earlier, or no gateway or DII is held.
 pub fn home_of(shot: &Shot, path: &Path) -> Option<u16>
     ensures { result ≡ places.home_of (held_of shot.now) path.now }
 {
@@ -242,7 +242,7 @@ pub fn resolve(shot: &Shot, path: &Path) -> Result<Answer, NoMemory>
     answer_on(shot, path)
 }
 
-/// The answer by the rules of `resolve`, without a shot. Each step looks up one module.
+/// The answer by the rules of `resolve`, without a shot.
 pub fn answer_on<H: Holding>(held: &H, path: &Path) -> Result<Answer, NoMemory>
     ensures answer { IfOk result (λ a. a ≡ answer_of (H.state held.now) path.now) }
     ensures memory { OnErr result (IsTrue (is_shared (answer_of (H.state held.now) path.now))) }
