@@ -37,7 +37,6 @@ pub struct MemStore {
 }
 
 impl Calls {
-    /// Counts a call, and fails if that is planned.
     fn begin(&mut self) -> Result<(), StoreFault>
         ensures plan { self.new.fail_at ≡ self.old.fail_at }
         ensures made { self.new.made ≡ cap_at_u64 (self.old.made + 1) }

@@ -193,7 +193,6 @@ fn read_front<S: Source>(
     read_pieces(source, &mut piece, bytes, most)
 }
 
-/// The same, through a piece.
 fn read_pieces<S: Source>(
     source: &mut S,
     piece: &mut [u8],
