@@ -136,16 +136,16 @@ pub enum Answer {
     NotYet(u16),
     /// No gateway or no DII was heard yet.
     NoCarousel,
-    /// The walk leads to another carousel, to a delivery of identification 0, which no DII has, or
-    /// to an IOR without a location.
+    /// The walk leads to another carousel, to a delivery of identification 0, which no DII that
+    /// lists modules has, or to an IOR without a location.
     Elsewhere,
-    /// The walk needs this module, which is sent compressed.
+    /// This module is sent compressed.
     Compressed(u16),
     /// Reading this module stopped at this place, in bytes, before the object was found.
     Bad(u16, usize),
     /// The DII that delivers this module doesn't list it, or the module lacks the object.
     Dangling(u16),
-    /// The object in this module is neither a file nor a folder.
+    /// The object in this module is of another kind.
     OtherKind(u16),
 }
 

@@ -8,7 +8,7 @@ use biop_object::Module;
 use dsi_dii::ModuleLine;
 use std::sync::Arc;
 
-/// A module that a held DII lists, lent by its holder.
+/// A module that a held DII lists.
 #[derive(Drop)]
 pub struct Listed<'a> {
     /// That DII's identification, 1 to 32,767.

@@ -6,7 +6,7 @@ use std::sync::Arc;
 /// A module as a receiver holds it.
 #[derive(Drop)]
 pub struct Held {
-    /// The identification of the held DII that lists it, 1 to 32,767.
+    /// Its DII's identification, 1 to 32,767.
     pub identification: u16,
     /// The module's line in that DII.
     pub line: ModuleLine,
