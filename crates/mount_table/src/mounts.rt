@@ -117,7 +117,7 @@ impl Mounts {
     }
 
     /// Takes one packet of any PID: only the mount of its PID receives it. One look-up by PID finds
-    /// the mount, however many there are. One that doesn't parse changes no answer.
+    /// the mount, however many there are. Packets that don't parse change no answer.
     ///
     /// After `NoMemory` the table is spent: later calls of this and of
     /// [`open_path`](Mounts::open_path) answer `NoMemory`.
