@@ -34,9 +34,9 @@ pub fn open<S: Source, O: Output>(
     }
 }
 
-/// Writes a line of each path, as [`write_list`](crate::write_list) does, of one receiver that
-/// heard the whole source. `carrier` and the statuses are those of [`open`]; `NotAll` also comes
-/// after `more`.
+/// Writes a line of each path of [`path_listing::listed_paths`] of one receiver that heard the
+/// whole source, and `more` if more than [`path_listing::MOST_LISTED`] follow. `carrier` is as in
+/// [`open`]; `NotAll` also comes after `more`.
 pub fn list<S: Source, O: Output>(
     alloc: Global,
     carrier: Carrier,
