@@ -13,8 +13,8 @@ use std::alloc::Global;
 /// The most bytes of a script.
 pub const MOST_SCRIPT_BYTES: usize = 16_777_216;
 
-/// Runs a script's events in written order in one world of carousel 1, and writes a line for each
-/// that has a reply. The whole script is judged before the first event.
+/// Runs a script's events in written order in one world of carousel 1, and writes a line after each
+/// commit, draw and open. The whole script is judged before the first event.
 pub fn rehearse<S: Source, O: Output>(
     alloc: Global,
     weigh: Weigh,
