@@ -183,7 +183,7 @@ fn take_next<T: Trees, N: Notices, O: Output>(
     Ok(())
 }
 
-/// None if the tree is the one on the air.
+/// None if no other tree than the one on the air was read.
 fn next_tree<N: Notices>(
     playout: &Playout,
     read: Result<Publishable, Unread>,

@@ -187,7 +187,7 @@ impl Slot {
         }
     }
 
-    /// True of a slot that stands for a number alone.
+    /// False of a slot that stands for a number alone.
     fn has_form(self, alloc: Global, word: &String) -> Result<bool, NoMemory>
         ensures { IfOk result (λ b. b ≡ places.has_form self (string_bytes word.now)) }
     {

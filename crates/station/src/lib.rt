@@ -1,9 +1,8 @@
 //! One catalogue of a carousel, shared by editors who commit and a feeder who draws, on their own
 //! threads.
 //!
-//! Each call takes the catalogue in one hold, so all calls are in one history. A call finds the
-//! entries that its pass has seen, and leaves the pass with all up to its own. The station refuses
-//! what the catalogue refuses. Nothing is promised about when a call gets its hold.
+//! Each call takes the catalogue in one hold, so all calls are in one history. Afterwards its pass
+//! has seen all entries up to its own. Nothing is promised about when a call gets its hold.
 //!
 //! An editor commits no edits, and the feeder draws three items:
 //!

@@ -75,7 +75,7 @@ impl Station {
         requires { IsStationPass self.now pass.old }
         ensures pass { IsStationPass self.now pass.new }
         ensures number { number_of pass.new ≡ number_of pass.old }
-        // What the catalogue answers, and what the pass has seen then:
+        // What is answered, and then seen:
         ensures call { InOneHold (carousel_of self.now) (weights_of self.now) pass.old pass.new
             (λ c d. IsCommitted c (number_of pass.old) edits.items result d) }
         ensures entered { IfAnswered result (λ outcome.
@@ -101,7 +101,7 @@ impl Station {
         requires count { (1 ≤ n) × (n ≤ MOST_DRAWN) }
         ensures pass { IsStationPass self.now pass.new }
         ensures number { number_of pass.new ≡ number_of pass.old }
-        // What the catalogue answers, and what the pass has seen then:
+        // What is answered, and then seen:
         ensures call { InOneHold (carousel_of self.now) (weights_of self.now) pass.old pass.new
             (λ c d. IsDrawn c n result d) }
         ensures entered { IfOk result (λ b.
