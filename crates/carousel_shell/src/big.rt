@@ -14,14 +14,9 @@ use std::alloc::Global;
 use std::sync::Wait;
 use std::thread::Threads;
 
-/// Plays the session of the generated script of this size, 1 to 16, and writes one line: how many editors it has, how many commits were
-/// accepted, how many of the last opens answered a file, and how many bytes these files have together. The script and the line are this
-/// project's own.
-///
-/// The session is played to its end before anything is written. `Done` comes where the whole line was written, and after `WriteFault`,
-/// where the sink fails, a prefix of it was. After `NoMemory` nothing was written, or a prefix of the line. No other status comes.
-///
-/// Nothing may be pending in the output when it is called.
+/// Plays the session of the generated script of this size, 1 to 16, to its end. Then it writes one
+/// line: the editors, the accepted commits, the finales that answered a file, and those files'
+/// bytes.
 pub(crate) fn play_generated<R: Threads + Wait + Sync, O: Output, G: Gate>(
     rt: &R,
     alloc: Global,
@@ -30,9 +25,11 @@ pub(crate) fn play_generated<R: Threads + Wait + Sync, O: Output, G: Gate>(
     gate: &G,
     weigh: Weigh,
 ) -> Status
+    // What is handed in:
     requires least { 1 ≤ size }
     requires most { size ≤ 16 }
     requires empty { IsFlushed (O.state out.old) }
+    // What is written:
     ensures plays { PlaysBig weigh.weights size result (out_over O.state out.old out.new) }
     ensures same { (O.state out.new).name ≡ (O.state out.old).name }
     ensures in_time { IsInTime (O.state out.old) (O.state out.new) }
@@ -55,7 +52,6 @@ pub(crate) fn play_generated<R: Threads + Wait + Sync, O: Output, G: Gate>(
     }
 }
 
-/// Puts bytes, and writes them.
 fn put_all<O: Output>(bytes: &[u8], out: &mut O) -> Result<(), OutputFault>
     ensures puts { Puts result (O.state out.old) (O.state out.new) bytes.now }
     ensures empty { OnOk result (IsFlushed (O.state out.new)) }

@@ -14,11 +14,10 @@ use oc_bytes::NoMemory;
 use path_resolver::Answer;
 use std::alloc::Global;
 
-/// How many opens the first reader makes before the finales.
+/// The first reader's opens before its finales.
 const FIRST_OPENS: u64 = 64;
 
-/// The line of a generated session of this size: how many commits were accepted, how many finales answered a file, and how many bytes
-/// these files have together. Out of memory is the only refusal. The line is this project's own.
+/// The line of a generated session of this size.
 pub(crate) fn big_line(
     alloc: Global,
     size: u32,
@@ -33,7 +32,6 @@ pub(crate) fn big_line(
     counts_line(alloc, size, commits, files, bytes)
 }
 
-/// The line of these counts.
 fn counts_line(
     alloc: Global,
     size: u32,
@@ -46,7 +44,6 @@ fn counts_line(
     format!(in alloc; "big {size} editors {size} commits {commits} files {files} bytes {bytes}\n")
 }
 
-/// How many commits were accepted.
 fn accepted(told: &[(Event, Reply)]) -> u64
     ensures { result ≡ accepted_in (map known_view told.now) }
 {
@@ -65,7 +62,7 @@ fn is_accepted(reply: &Reply) -> bool
     matches!(reply, Reply::Committed(_))
 }
 
-/// How many bytes each file has that a finale answered.
+/// The size in bytes of each file that a finale answered.
 fn finale_lengths(alloc: Global, told: &[(Event, Reply)]) -> Result<Vec<u64>, NoMemory>
     ensures { MakesList result (specs.finale_lengths (map known_view told.now)) }
 {
@@ -78,7 +75,7 @@ fn finale_lengths(alloc: Global, told: &[(Event, Reply)]) -> Result<Vec<u64>, No
     Ok(lengths)
 }
 
-/// Adds the length of a finale's file, where the first reader made so many opens above it.
+/// Only an open after the first reader's first [`FIRST_OPENS`] is a finale.
 fn push_length(lengths: &mut Vec<u64>, opens: u64, one: &(Event, Reply)) -> Result<(), NoMemory>
     ensures { OnOk result
         (lengths.new.items ≡ lengths.old.items ++ inner.length_more opens (known_view one.now)) }
@@ -95,7 +92,7 @@ fn push_length(lengths: &mut Vec<u64>, opens: u64, one: &(Event, Reply)) -> Resu
     }
 }
 
-/// How many opens the first reader made, with this event, if it is one.
+/// The first reader's opens, this event included.
 fn opens_after(opens: u64, event: &Event) -> u64
     requires { opens + 1 < 2 ^ 64 }
     ensures { result ≡ opens + (if is_open_by 1 (view event.now) then 1 else 0) }
@@ -103,7 +100,6 @@ fn opens_after(opens: u64, event: &Event) -> u64
     if is_first(event) { opens + 1 } else { opens }
 }
 
-/// Whether the first reader opens a path.
 fn is_first(event: &Event) -> bool
     ensures { result ≡ is_open_by 1 (view event.now) }
 {
@@ -113,7 +109,7 @@ fn is_first(event: &Event) -> bool
     }
 }
 
-/// How many bytes the file has that is answered, if one is.
+/// None unless a file is answered.
 fn reply_length(reply: &Reply) -> Option<u64>
     ensures { result ≡ specs.reply_length reply.now }
 {
@@ -132,7 +128,6 @@ fn answer_length(answer: &Answer) -> Option<u64>
     }
 }
 
-/// The sum of these lengths.
 fn total(lengths: &[u64]) -> u128
     ensures { result ≡ sum lengths.now }
 {

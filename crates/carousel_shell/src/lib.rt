@@ -1,6 +1,6 @@
-//! The top calls: `run`, which runs every command, `run_session`, which runs `session` and `big`, whose actors are threads, and `run_plain`, which
-//! runs every other one and starts no thread. Beside them stands what their callers need: how a command ended, the limits and the laws, and how
-//! the parts of a session make one history.
+//! The top calls: `run` runs every command; `run_session` runs `session` and `big` on threads, and
+//! `run_plain` every other without. The limits, the laws and the statuses are re-exported. The
+//! rules are this project's own.
 //!
 //! ```
 //! ghost use Rattle.std.specs.Prelude.{◌≡◌};

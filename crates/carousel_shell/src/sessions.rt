@@ -15,16 +15,9 @@ use std::alloc::Global;
 use std::sync::Wait;
 use std::thread::Threads;
 
-/// Reads a script, plays its session, in which each module is sent as often a cycle as it weighs, and writes a line for each commit, draw
-/// and open of it, in one order in which they happened. The language, the order in which actors run and the lines are this project's own.
-///
-/// `ReadFault` comes where the source fails, and `InputTooLong` exactly where at least a byte more than [`MOST_SCRIPT_BYTES`] is read. The whole
-/// input is read before anything else is done. `BadLine` comes exactly where it is no script; it names the first line that doesn't fit,
-/// and that line's first cause. In these three cases nothing is written. Then the session is played to its end, and nothing is written
-/// before that. `Done` comes where the whole report was written, and after `WriteFault`, where the sink fails, a prefix of it was. After
-/// `NoMemory` nothing was written, or a prefix of the report of a session that was played to its end. No other status comes.
-///
-/// Nothing may be pending in the output when it is called.
+/// Plays a script's session to its end, and then writes a line for each commit, draw and open, in
+/// one order in which they happened. The whole script is read and judged before the session begins.
+/// `weigh` says how often each module is sent in a cycle.
 pub(crate) fn play_session<R: Threads + Wait + Sync, S: Source, O: Output, G: Gate>(
     rt: &R,
     alloc: Global,
@@ -47,7 +40,7 @@ pub(crate) fn play_session<R: Threads + Wait + Sync, S: Source, O: Output, G: Ga
         Ok(parts) => parts,
         Err(fault) => return Status::from(fault),
     };
-    // The text is of no use any more, and may be large.
+    // The text may be large.
     drop(text);
     let told = match play(rt, alloc, parts, gate, weigh) {
         Ok(told) => told,

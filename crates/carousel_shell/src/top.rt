@@ -26,18 +26,8 @@ use std::sync::Wait;
 use std::thread::Threads;
 use watch_desk::Filter;
 
-/// Runs the command that the words name: they are the command line without the program's name, and are read once. `session` and `big` run
-/// on threads, as [`run_session`] says, and every other command without, as [`run_plain`](crate::run_plain) says.
-///
-/// The input comes from the source, the output goes to the sink, the folders are those that `publish`, `publish-on`, `publish-psi`, `air` and
-/// `plan` read, the store is the one that `extract` writes into, which every other command leaves as it is, and the notices are those that `air`
-/// gives, of which none was given before. Each actor of a session passes the gate before each of its steps. Each module is sent as often a
-/// cycle as it weighs. The filters are the watchers that `watch` tells of changes. A write that fails is the last one that is tried, where
-/// none had failed before. These rules are this project's own.
-///
-/// The laws beside it say what that comes to: `receptions` of all that is heard or found of an
-/// input, `playouts` of all that is heard of what `air` sends, and `limits` which numbers the limits
-/// are. `weights` is the condition of some of them.
+/// Runs the command that the words name: `session` and `big` as [`run_session`] does, every other
+/// one as [`run_plain`](crate::run_plain) does. The arguments are theirs.
 pub fn run<R: Threads + Wait + Sync, S: Source, K: Sink, F: Folders, T: Store, N: Notices, G: Gate>(
     rt: &R,
     alloc: Global,
@@ -51,6 +41,7 @@ pub fn run<R: Threads + Wait + Sync, S: Source, K: Sink, F: Folders, T: Store, N
     weigh: Weigh,
     filters: Vec<Filter>,
 ) -> Status
+    // What the command does:
     requires untold { N.told notices.old notices.old [] }
     ensures keeps { KeepsAll weigh.weights (prefixes_of filters.items)
         (commands.command_of (word_bytes words.now)) result
@@ -62,6 +53,7 @@ pub fn run<R: Threads + Wait + Sync, S: Source, K: Sink, F: Folders, T: Store, N
     ensures quiet { gives_notices (commands.command_of (word_bytes words.now)) ≡ false
         → notices.new ≡ notices.old }
     ensures in_time { K.failed sink.old ≡ false → K.late sink.new ≡ K.late sink.old }
+    // The laws of all that comes of it:
     ensures receptions { Receptions }
     ensures playouts { PlayoutsMeet }
     ensures weights { AreWeights weigh.weights }
@@ -80,7 +72,6 @@ pub fn run<R: Threads + Wait + Sync, S: Source, K: Sink, F: Folders, T: Store, N
     )
 }
 
-/// Runs a command: one that plays a session on threads, and every other one without.
 fn run_any<
     R: Threads + Wait + Sync,
     S: Source,
@@ -102,9 +93,11 @@ fn run_any<
     weigh: Weigh,
     filters: Vec<Filter>,
 ) -> Status
+    // What is handed in:
     requires sized { commands.IsSized command }
     requires pending { IsFlushed (O.state out.old) }
     requires untold { N.told notices.old notices.old [] }
+    // What the command does:
     ensures keeps { KeepsAll weigh.weights (prefixes_of filters.items) (Ok (commands.view command))
         result (over S.left S.faults source.old source.new) (out_over O.state out.old out.new)
         (over F.tree F.faults folders.old folders.new) (over T.tree T.faults store.old store.new)
@@ -123,27 +116,15 @@ fn run_any<
     }
 }
 
-/// Runs `session` or `big`, on threads of its own: it plays a script with carousel 1, each editor, the feeder and each reader on a thread.
-/// The script of `session` is the input; that of `big` is generated, of the size that its word names, and nothing is read. It may wait
-/// for as long as one of the actors does.
+/// Runs `session` or `big` on threads: each editor, the feeder and each reader on one. Words of
+/// another command or none are `Words`, before anything is read or written. `source` has the script
+/// of `session`; `big` generates its own and reads nothing.
 ///
-/// - `Words` comes before all else: where the words are those of another command or of none. Nothing was read or written.
-/// - `session` reads the whole input before anything else is done. While it reads come `ReadFault`, where the source fails, and
-///   `InputTooLong` where a byte is left after [`MOST_SCRIPT_BYTES`](crate::MOST_SCRIPT_BYTES). Then comes `BadLine` where the input is no
-///   script. Nothing was written up to there.
-/// - Then the session is played to its end. What the actors did is one history: each editor's commits stand in written order, but for
-///   those that found no room; the draws stand in written order; and so do each reader's opens, each after the draws that it has to have
-///   heard, and right after the last draw before what it is answered on.
-/// - `session` writes the report of that history, in which each line tells what comes of what stands before it. `big` writes one line of
-///   it: its editors, its accepted commits, the last opens that answered a file, and the bytes of these files.
-/// - `Done` comes when all of that was written, and `WriteFault`, where the sink fails, when a prefix of it was.
-/// - `NoMemory` comes where there is no memory, at any of these steps. Nothing was written, or a prefix of what `Done` stands for.
+/// The session is played to its end, and then its history is written. Each actor's lines are in
+/// written order in it, but for commits that found no room. The call waits while an actor does.
 ///
-/// Below `start` each editor, the feeder and each reader passes the gate before each of its lines, with steps counted from 0; the two
-/// workers that make a draw's sections pass it too. Each module is sent as often a cycle as it weighs. What was written stands after what the sink had. A write that
-/// fails is the last one that is tried, where none had failed before. These rules are this project's own.
-///
-/// The laws are those of `run`.
+/// Each actor passes the gate before each of its lines below `start`, and each worker before a
+/// draw's sections; steps count from 0. After an error a prefix of the output was written.
 pub fn run_session<R: Threads + Wait + Sync, S: Source, K: Sink, G: Gate>(
     rt: &R,
     alloc: Global,
@@ -153,9 +134,11 @@ pub fn run_session<R: Threads + Wait + Sync, S: Source, K: Sink, G: Gate>(
     gate: &G,
     weigh: Weigh,
 ) -> Status
+    // What the command does:
     ensures keeps { KeepsSession weigh.weights (commands.command_of (word_bytes words.now)) result
         (over S.left S.faults source.old source.new) (over K.written K.faults sink.old sink.new) }
     ensures in_time { K.failed sink.old ≡ false → K.late sink.new ≡ K.late sink.old }
+    // The laws of all that comes of it:
     ensures receptions { Receptions }
     ensures playouts { PlayoutsMeet }
     ensures weights { AreWeights weigh.weights }
@@ -172,7 +155,6 @@ pub fn run_session<R: Threads + Wait + Sync, S: Source, K: Sink, G: Gate>(
     play_command(rt, alloc, &command, source, &mut out, gate, weigh)
 }
 
-/// Plays the session that the command names; every other command names none.
 fn play_command<R: Threads + Wait + Sync, S: Source, O: Output, G: Gate>(
     rt: &R,
     alloc: Global,

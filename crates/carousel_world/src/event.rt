@@ -8,8 +8,9 @@ use ts_packet::Fate;
 pub enum Event {
     /// An editor, numbered 1 to 64, commits edits of the current tree.
     Commit { editor: u32, edits: Edits },
-    /// So many items, 1 to [`cycle_planner::MOST_DRAWN`], or as many as are left in the cycle, are drawn and sent. Packet number i of the draw,
-    /// counted from 0, meets the fate at place i modulo their number; without fates all arrive.
+    /// The next `asked` items of the cycle, 1 to [`cycle_planner::MOST_DRAWN`], or all that are
+    /// left in it, are drawn and sent. Packet i of the draw, from 0, meets fate i modulo their
+    /// number; without fates all arrive.
     Draw { asked: u32, fates: Vec<Fate> },
     /// A reader, numbered 1 to 64, opens a path.
     Open { reader: u32, path: Path },
@@ -22,15 +23,16 @@ pub enum Reply {
     Committed(u64),
     /// Why the commit made none.
     Refused(Refusal),
-    /// The number of the generation of which items were drawn, the place in its cycle of the first, and how many they are.
+    /// The generation's number, the first item's place in its cycle, and how many items were drawn.
     Drawn {
         generation: u64,
         first: u64,
         count: u64,
     },
-    /// So many draws were made already, [`generation_catalogue::MOST_DRAWS`], and this one wasn't.
+    /// This draw wasn't made, because [`generation_catalogue::MOST_DRAWS`] draws, the number given,
+    /// were.
     DrawsFull(u64),
-    /// The number of the generation that the receiver holds, if it holds one, and the answer to the path.
+    /// The label, if any generation is held, and the answer to the path.
     Opened {
         label: Option<u64>,
         answer: Answer,

@@ -1,6 +1,5 @@
-//! What holds end to end between a broadcaster and a receiver of an object carousel (ISO/IEC 13818-6): a world of both, one event
-//! after another, and laws over lists of events and of sections.
-//!
+//! What holds end to end between a broadcaster and a receiver of an object carousel (ISO/IEC
+//! 13818-6): a world of both, and laws over lists of events and of sections.
 //! ```
 //! ghost use Rattle.std.specs.Prelude.{◌≡◌};
 //!

@@ -7,8 +7,8 @@ ghost use Rattle.cycle_planner.specs.Places.{IsListed};
 
 use module_groups::{MOST_GROUPS, group_of};
 
-/// Whether a round has a DII of a group: always of the first, and of each other one with a line. The
-/// lines of a group stand together, since ids rise, and the first of them is found by halves.
+/// Group 1 always has one. A group's lines are in a row because ids rise, so its first is found by
+/// halves.
 fn has_group(lines: &[(u16, u32)], group: u16) -> bool
     requires { AreLines lines.now }
     ensures { result ≡ cycle.has_group lines.now group }
@@ -21,7 +21,7 @@ fn has_group(lines: &[(u16, u32)], group: u16) -> bool
     group == 1 || first < lines.len() && group_of(lines[first].0) == group
 }
 
-/// The least group above one that has a DII.
+/// The least group above `group` that has a DII.
 pub fn group_after(lines: &[(u16, u32)], group: u16) -> Option<u16>
     requires lines { AreLines lines.now }
     requires group { group ≤ MOST_GROUPS }
@@ -36,7 +36,7 @@ pub fn group_after(lines: &[(u16, u32)], group: u16) -> Option<u16>
     None
 }
 
-/// The group of the DII at a place among those of a round.
+/// The group of a round's DII at a place, from 0.
 pub fn group_at(lines: &[(u16, u32)], at: u64) -> u16
     requires lines { AreLines lines.now }
     requires below { at < length (diis_of lines.now) }

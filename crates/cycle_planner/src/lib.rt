@@ -1,11 +1,13 @@
-//! The order of the items of a cycle: what a broadcaster sends, section by section, before it begins again.
+//! The order of a cycle's items: what a broadcaster sends before it begins again.
 //!
-//! Each module has a weight, 1 to [`GREATEST_WEIGHT`]. A cycle begins with the DSI and goes in rounds, as many as the greatest weight among
-//! its modules. A round is the DIIs, by rising group, and then the blocks, by rising module id and block number, of each module that weighs
-//! more than rounds went before. There is a DII of group 1, and one of each other group that a module's id is of. So each DII is sent in
-//! each round, and each block as often as its module weighs. ISO/IEC 13818-6 leaves the order and the repetition of a carousel's
-//! messages to the broadcaster; the order and the weights here are this project's own. A module is given as a line: its id, 1 to [`GREATEST_ID`], and
-//! the number of its blocks, at most [`ddb_block::MOST_BLOCKS`].
+//! Each module has a weight, 1 to [`GREATEST_WEIGHT`]. A cycle is the DSI and then rounds, as many
+//! as the greatest weight among its modules. A round is the DIIs, by rising group, and then the
+//! blocks of each module whose weight is above the number of earlier rounds, by rising id and
+//! block. Group 1 and each group of a module has a DII. ISO/IEC 13818-6 leaves order and repetition
+//! to the broadcaster; both are this project's own here.
+//!
+//! A line is a module's id, 1 to [`GREATEST_ID`], and its number of blocks, at most
+//! [`ddb_block::MOST_BLOCKS`].
 //!
 //! ```
 //! use cycle_planner::{GREATEST_ID, Item, Walk, Weigh, cycle_len, item_at};
@@ -42,17 +44,16 @@ pub use weigh::{Call, GREATEST_WEIGHT, Weigh};
 pub enum Item {
     /// The DownloadServerInitiate, which names the service gateway.
     Dsi,
-    /// A DownloadInfoIndication, which lists modules: the number of their group ([`module_groups::group_of`]), 1 to 16.
+    /// A DownloadInfoIndication, by its group ([`module_groups::group_of`]), 1 to 16.
     Dii(u16),
-    /// A block of a module: the module's id and the block's number, counted from 0.
+    /// A module's id and a block's number, from 0.
     Block(u16, u16),
 }
 
-/// The most items that one draw takes of a cycle. This project's own limit.
+/// The most items that one draw takes.
 pub const MOST_DRAWN: u32 = 1_048_576;
 
-/// How many items a cycle of these lines has: the DSI, each DII as often as the greatest weight says, and each module's
-/// blocks as often as it weighs. The lines aren't empty and their ids rise. Takes no memory.
+/// How many items a cycle has. There is a line, and ids rise. Takes no memory.
 pub fn cycle_len(lines: &[(u16, u32)], weigh: &Weigh) -> u64
     requires { AreLines lines.now }
     ensures len { result ≡ length (cycle_of weigh.now.weights lines.now) }
@@ -68,8 +69,8 @@ pub fn cycle_len(lines: &[(u16, u32)], weigh: &Weigh) -> u64
     items + rounds * dii_count(lines)
 }
 
-/// The item at a place of the cycle, counted from 0, which has to be below `cycle_len`. Takes no memory; the rounds and the
-/// modules before the place are passed over whole.
+/// The item at a place, from 0 and below `cycle_len`. Takes no memory; earlier rounds and modules
+/// are passed over whole.
 pub fn item_at(lines: &[(u16, u32)], weigh: &Weigh, at: u64) -> Item
     requires lines { AreLines lines.now }
     requires below { at < length (cycle_of weigh.now.weights lines.now) }
@@ -79,14 +80,13 @@ pub fn item_at(lines: &[(u16, u32)], weigh: &Weigh, at: u64) -> Item
     walk.next(lines, weigh).unwrap()
 }
 
-/// The greater number.
 fn greater(first: u64, second: u64) -> u64
     ensures { result ≡ max first second }
 {
     if first < second { second } else { first }
 }
 
-/// How many blocks of a module are sent in a round: all, or none.
+/// All, or none.
 fn blocks_in(line: &(u16, u32), weigh: &Weigh, number: u8) -> u64
     requires { (1 ≤ line.now.0) × (line.now.0 ≤ GREATEST_ID) }
     ensures { result ≡ length (blocks_in_round weigh.now.weights number line.now) }

@@ -8,20 +8,20 @@ ghost use Rattle.cycle_planner.specs.Rounds.{blocks_in_round};
 use crate::diis::{dii_count, group_after, group_at};
 use crate::{Item, Weigh, blocks_in, round_len};
 
-/// Where a walk stands in a cycle. Rounds, lines and blocks are counted from 0, groups from 1.
+/// Where a walk is in a cycle. Rounds, lines and blocks count from 0, groups from 1.
 #[derive(Clone, Copy, Debug)]
 pub enum Place {
     /// Before the DSI.
     Start,
     /// Before the DII of a group.
     Dii { round: u8, group: u16 },
-    /// Before a block of a module that the round sends.
+    /// Before a block.
     Block { round: u8, line: usize, block: u16 },
-    /// Behind the last round.
+    /// After the last round.
     End,
 }
 
-/// The item at a place, and the place behind it.
+/// The item at a place, and the place after it.
 #[tactic(auto, using(crate::proofs::Stepping::begins, crate::proofs::Stepping::dii_first, crate::proofs::Stepping::block_first, crate::proofs::Stepping::first_listed, crate::proofs::Order::some_round))]
 pub fn step(lines: &[(u16, u32)], weigh: &Weigh, rounds: u8, place: Place) -> Option<(Item, Place)>
     requires lines { AreLines lines.now }
@@ -55,12 +55,13 @@ pub fn step(lines: &[(u16, u32)], weigh: &Weigh, rounds: u8, place: Place) -> Op
     }
 }
 
-/// The place of the next item behind the DII of a group.
+// What is known of the round:
 fn after_dii(lines: &[(u16, u32)], weigh: &Weigh, rounds: u8, round: u8, group: u16) -> Place
     requires lines { AreLines lines.now }
     requires rounds { rounds ≡ greatest_weight weigh.now.weights lines.now }
     requires round { round < rounds }
     requires group { group ≤ MOST_GROUPS }
+    // Where the walk goes on:
     ensures place { IsPlace weigh.now.weights lines.now result }
     ensures items { items_from weigh.now.weights lines.now result
         ≡ diis_from lines.now (group + 1) ++ lines_from weigh.now.weights lines.now round 0 }
@@ -71,13 +72,15 @@ fn after_dii(lines: &[(u16, u32)], weigh: &Weigh, rounds: u8, round: u8, group: 
     }
 }
 
-/// The place of the next item where the lines of a round are still to come from one on.
+/// The next item's place, from line `from` of a round on.
 #[tactic(auto, using(crate::proofs::Stepping::round_begins, crate::proofs::Stepping::first_listed))]
 fn place_from(lines: &[(u16, u32)], weigh: &Weigh, rounds: u8, round: u8, from: usize) -> Place
+    // What is known of the round:
     requires lines { AreLines lines.now }
     requires rounds { rounds ≡ greatest_weight weigh.now.weights lines.now }
     requires round { round < rounds }
     requires from { from ≤ length lines.now }
+    // Where the walk goes on:
     ensures place { IsPlace weigh.now.weights lines.now result }
     ensures items { items_from weigh.now.weights lines.now result
         ≡ lines_from weigh.now.weights lines.now round from }
@@ -101,7 +104,7 @@ fn place_from(lines: &[(u16, u32)], weigh: &Weigh, rounds: u8, round: u8, from: 
     }
 }
 
-/// The place of the item that so many of the cycle stand before, or the end. Rounds, DIIs and modules before it are passed over whole.
+/// The place after `at` items, or the end. What is before it is passed over whole.
 pub fn place_at(lines: &[(u16, u32)], weigh: &Weigh, rounds: u8, at: u64) -> Place
     requires lines { AreLines lines.now }
     requires rounds { rounds ≡ greatest_weight weigh.now.weights lines.now }
@@ -123,7 +126,7 @@ pub fn place_at(lines: &[(u16, u32)], weigh: &Weigh, rounds: u8, at: u64) -> Pla
     Place::End
 }
 
-/// The place of the item that so many of a round stand before.
+/// `at` counts items of the round.
 fn place_in_round(lines: &[(u16, u32)], weigh: &Weigh, round: u8, at: u64) -> Place
     requires lines { AreLines lines.now }
     requires round { round < greatest_weight weigh.now.weights lines.now }
@@ -143,7 +146,7 @@ fn place_in_round(lines: &[(u16, u32)], weigh: &Weigh, round: u8, at: u64) -> Pl
     }
 }
 
-/// The place of the block that so many of a round stand before.
+/// `at` counts blocks of the round.
 fn place_in_lines(lines: &[(u16, u32)], weigh: &Weigh, round: u8, at: u64) -> Place
     requires lines { AreLines lines.now }
     requires round { round < greatest_weight weigh.now.weights lines.now }

@@ -4,9 +4,8 @@ ghost use Rattle.cycle_planner.specs.Cycle.{AreLines, cycle_of, greatest_weight}
 use crate::place::{Place, place_at, step};
 use crate::{Item, Weigh};
 
-/// A walk over the items of a cycle, one after another: a module's weight is asked once before the first item and once a round,
-/// and by a walk that begins at a place once more in each round up to it. The lines and the weights are lent to each call, and
-/// have to stay the same; contracts see the items of their cycle that are still to come.
+/// A walk over a cycle's items. The lines and weights are lent to each call, and have to stay the
+/// same. A weight is asked once at the start and once a round.
 #[derive(Clone, Copy, Debug)]
 pub struct Walk {
     rounds: u8,
@@ -16,7 +15,7 @@ pub struct Walk {
 impl Walk {
     ghost use Rattle.cycle_planner.specs.Walks.{IsWalk, left_of};
 
-    /// Stands before the cycle of these lines, which aren't empty and whose ids rise. Takes no memory.
+    /// Before the cycle's first item. Takes no memory.
     pub fn new(lines: &[(u16, u32)], weigh: &Weigh) -> Walk
         requires { AreLines lines.now }
         ensures walk { IsWalk weigh.now.weights lines.now result }
@@ -29,8 +28,8 @@ impl Walk {
         }
     }
 
-    /// Stands before the item at a place of the cycle of these lines, counted from 0, or behind the last one where the cycle has no
-    /// such place. Takes no memory; the rounds and the modules before the place are passed over whole.
+    /// Before the item at a place, from 0, or at the end. Takes no memory; earlier rounds and
+    /// modules are passed over whole.
     pub fn at(lines: &[(u16, u32)], weigh: &Weigh, at: u64) -> Walk
         requires { AreLines lines.now }
         ensures walk { IsWalk weigh.now.weights lines.now result }
@@ -44,7 +43,7 @@ impl Walk {
         }
     }
 
-    /// The next item of the cycle of these lines, or `None` behind the last one, where the walk stays. Takes no memory.
+    /// The next item, or `None` at the end. Takes no memory.
     pub fn next(&mut self, lines: &[(u16, u32)], weigh: &Weigh) -> Option<Item>
         requires { IsWalk weigh.now.weights lines.now self.old }
         ensures walk { IsWalk weigh.now.weights lines.now self.new }
@@ -61,7 +60,6 @@ impl Walk {
     }
 }
 
-/// How many rounds a cycle has.
 fn rounds_of(lines: &[(u16, u32)], weigh: &Weigh) -> u8
     requires { AreLines lines.now }
     ensures { result ≡ greatest_weight weigh.now.weights lines.now }

@@ -10,8 +10,8 @@ pub const GREATEST_WEIGHT: u8 = 8;
 /// What answers the weight of a module, by its id.
 pub type Call = Box<dyn Fn(u16) -> u8 + Send + Sync + Drop>;
 
-/// How often each module is sent in a cycle: its weight, 1 to [`GREATEST_WEIGHT`], for each module id, 1 to [`GREATEST_ID`]. A closure answers it. A `Weigh`
-/// is seen as the list of the weights, from module 1 on. Weights are this project's own.
+/// How often each module is sent in a cycle: for each id, 1 to [`GREATEST_ID`], its weight, 1 to
+/// [`GREATEST_WEIGHT`].
 #[derive(Drop)]
 pub struct Weigh {
     weights: [u8; GREATEST_ID],
@@ -26,8 +26,7 @@ pub struct Weigh {
 }
 
 impl Weigh {
-    /// The weights of a list, from module 1 on, as a closure answers them. Each is 1 to 8, and the closure may be called with each
-    /// id from 1 to [`GREATEST_ID`] and answers the weight that the list has for it. Takes no memory.
+    /// `weights` begin with module 1, and the closure answers the same. Takes no memory.
     pub fn new(weights: [u8; GREATEST_ID], call: Call) -> Weigh
         requires weights { AreWeights weights }
         requires callable { (m : ℕ) → 1 ≤ m → m ≤ GREATEST_ID → Call.pre call m }
@@ -41,7 +40,7 @@ impl Weigh {
         Weigh { weights, call }
     }
 
-    /// The list of the weights, from module 1 on. Takes no memory.
+    /// From module 1 on. Takes no memory.
     pub fn kept(&self) -> [u8; GREATEST_ID]
         ensures weights { result ≡ self.now.weights }
         ensures range { AreWeights self.now.weights }
@@ -49,7 +48,7 @@ impl Weigh {
         self.weights
     }
 
-    /// The weight of a module, 1 to 8. The id is 1 to [`GREATEST_ID`]. Takes no memory.
+    /// 1 to 8, for an id from 1 to [`GREATEST_ID`]. Takes no memory.
     pub fn of(&self, id: u16) -> u8
         requires low { 1 ≤ id }
         requires high { id ≤ GREATEST_ID }

@@ -27,7 +27,7 @@ pub struct FolderTrees<'a, F: Folders> {
 }
 
 impl<'a, F: Folders> FolderTrees<'a, F> {
-    /// The folder of this path text, of which nothing was read yet.
+    /// `folder` is its path text. Nothing is read yet.
     pub fn new(alloc: Global, folders: &'a mut F, folder: &'a str) -> FolderTrees<'a, F>
         ensures same { result.folders.ghost_name ≡ folders.entry.ghost_name }
         ensures now { result.folders.now ≡ folders.old }
@@ -50,7 +50,7 @@ impl<F: Folders> Trees for FolderTrees<'_, F> {
         × AreRead a.folder.now (F.tree a.folders.now) (F.tree b.folders.now)
         (F.faults a.folders.now) (F.faults b.folders.now) readings };
 
-    /// The tree of the folder, as `publish` makes it: what it refuses is refused in the same order.
+    /// Refusals come in the order of `publish`'s.
     fn read(&mut self) -> Result<Publishable, Unread> {
         match survey(self.alloc, self.folders, self.folder) {
             Ok(survey) => tree_of(self.alloc, &survey.edits),
@@ -59,7 +59,6 @@ impl<F: Folders> Trees for FolderTrees<'_, F> {
     }
 }
 
-/// Why a survey gave no tree, with the path that it names.
 fn walk_fault(alloc: Global, fault: &SurveyFault) -> Result<Unread, NoMemory>
     ensures { IfOk result (λ unread.
         reading_in (Err unread)
@@ -74,7 +73,7 @@ fn walk_fault(alloc: Global, fault: &SurveyFault) -> Result<Unread, NoMemory>
     }
 }
 
-/// The tree that edits make of the empty one, or the first refusal that holds, with the path at fault.
+/// The tree that edits make of the empty one, or the first refusal, with the path at fault.
 fn tree_of(alloc: Global, edits: &[Edit]) -> Result<Publishable, Unread>
     ensures tells { Tells result (by_judgement edits.now (judged edits.now) ∷ []) }
     ensures publishable { IfOk result IsPublishable }
@@ -89,7 +88,7 @@ fn tree_of(alloc: Global, edits: &[Edit]) -> Result<Publishable, Unread>
     }
 }
 
-/// The path of the file that is too large. That of a folder is in the refusal itself, and no other refusal of what a folder holds is of one path.
+/// The path of a file that is too large; no other refusal lacks its path.
 fn path_told(alloc: Global, edits: &[Edit], refusal: &Refusal) -> Result<Option<String>, NoMemory>
     ensures { IfOk result (λ path. option_map string_bytes path ≡ path_told edits.now refusal.now) }
 {
@@ -102,7 +101,7 @@ fn path_told(alloc: Global, edits: &[Edit], refusal: &Refusal) -> Result<Option<
     }
 }
 
-/// The tree that edits make of the empty one, or the first refusal that holds.
+/// As the first commit of a carousel.
 fn judge(alloc: Global, edits: &[Edit]) -> Result<Publishable, CommitFault>
     ensures judged { Gives (λ t. t) commit_cause result (judged edits.now) }
     ensures publishable { IfOk result IsPublishable }
@@ -115,7 +114,7 @@ fn judge(alloc: Global, edits: &[Edit]) -> Result<Publishable, CommitFault>
     Ok(checked(alloc, tree)?)
 }
 
-/// The bytes that the edits put, or the greatest `u64`.
+/// At most the greatest `u64`.
 fn total_of(edits: &[Edit]) -> u64
     ensures { result ≡ cap_at_u64 (put_bytes edits.now) }
 {
@@ -126,7 +125,6 @@ fn total_of(edits: &[Edit]) -> u64
     total
 }
 
-/// The bytes that an edit puts.
 fn size_put(edit: &Edit) -> u64
     ensures { result ≡ put_size edit.now }
 {

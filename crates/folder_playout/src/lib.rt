@@ -1,8 +1,9 @@
-//! A folder that stays on the air: whole cycles of a carousel, one after another, while the folder's tree may change between them.
+//! A folder that stays on the air: whole cycles of a carousel, with the tree read again before
+//! each.
 //!
-//! Before each cycle a tree is read. Where it is another one than that of the generation on the air, it becomes the next generation, in which
-//! each object keeps its key and its module as far as there is room, so that a receiver fetches again only the modules in which something
-//! changed.
+//! A changed tree becomes the next generation. Objects keep their keys and modules as far as there
+//! is room, so that a receiver fetches only changed modules again. Texts and traits are this
+//! project's own.
 #![tactic(auto)]
 
 mod folder;

@@ -18,10 +18,8 @@ use path_tree::EditFault;
 use shell_words::refusal_text;
 use std::alloc::Global;
 
-/// The line of a generation that goes on the air: `generation N cycle C files F modules M bytes B` and a line feed. This project's own text.
-///
-/// `number` is the generation's, `cycle` the first cycle with it, counted from 1, and `difference` what a receiver fetches again for it. Out of
-/// memory is the only refusal.
+/// `generation N cycle C files F modules M bytes B` and a line feed. Cycle `cycle`, from 1, is the
+/// generation's first, and `difference` what a receiver fetches again.
 pub fn began_text(
     alloc: Global,
     number: u64,
@@ -40,7 +38,6 @@ fn began_line(alloc: Global, number: u64, cycle: u32, words: &str) -> Result<Str
     format!(in alloc; "generation {number} cycle {cycle} {words}\n")
 }
 
-/// How much is fetched again.
 fn difference_words(alloc: Global, difference: Difference) -> Result<String, NoMemory>
     ensures { Spells result (difference_words difference) }
 {
@@ -50,11 +47,9 @@ fn difference_words(alloc: Global, difference: Difference) -> Result<String, NoM
     format!(in alloc; "files {files} modules {modules} bytes {bytes}")
 }
 
-/// The line of a generation that stays on the air since no tree was read: `kept N cycle C`, why, and a line feed; none where there was no memory,
-/// of which no notice is given. This project's own text.
-///
-/// `number` is the generation's, and `cycle` the cycle before which no tree was read, counted from 1. Why is `unreadable`, `too-deep`, `bad-name` or
-/// `file-too-large` and the text of the path, or the text of the refusal. Out of memory is the only refusal.
+/// `kept N cycle C`, why no tree was read, and a line feed; no text after `Unread::NoMemory`.
+/// Cycles count from 1. Why is `unreadable`, `too-deep`, `bad-name` or `file-too-large` with the
+/// path, or the refusal's text.
 pub fn kept_text(
     alloc: Global,
     number: u64,
@@ -80,7 +75,6 @@ fn kept_line(alloc: Global, number: u64, cycle: u32, words: &str) -> Result<Stri
     format!(in alloc; "kept {number} cycle {cycle} {words}\n")
 }
 
-/// Why a tree is refused.
 fn refused_words(
     alloc: Global,
     fault: &TreeFault,
@@ -95,7 +89,6 @@ fn refused_words(
     }
 }
 
-/// A word, and the path where there is one.
 fn with_path(alloc: Global, word: &str, path: &Option<String>) -> Result<String, NoMemory>
     ensures { Spells result (with_path word.now (option_map string_bytes path.now)) }
 {
@@ -105,7 +98,7 @@ fn with_path(alloc: Global, word: &str, path: &Option<String>) -> Result<String,
     }
 }
 
-/// The text of a commit's refusal. A file that is too large is named by its path, where that is known.
+/// A file that is too large is named by its path, if that is known.
 fn commit_words(alloc: Global, refusal: &Refusal, path: &Option<String>) -> Result<String, NoMemory>
     ensures { Spells result (commit_words refusal.now (option_map string_bytes path.now)) }
 {

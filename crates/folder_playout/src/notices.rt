@@ -9,34 +9,35 @@ use crate::reading::Unread;
 use generation::Generation;
 use path_tree::{Entry, Path, Tree};
 
-/// Who is told of generations while a carousel is on the air. A playout goes on whatever becomes of it. This trait is this project's own.
+/// Who is told of generations on the air. It has no answer.
 pub trait Notices {
     ghost use Rattle.std.specs.Prelude.{List};
     ghost use Rattle.folder_playout.specs.Notices.{Notice};
 
-    /// From the first value on to the second these notices were given, in order, and no other.
+    /// From the first value to the second exactly these notices were given, in order.
     ghost told: { Self → Self → List Notice → Type 0 };
 
-    /// A generation of this number goes on the air with this cycle, counted from 1. In so much it differs from the one before.
+    /// A generation goes on the air with this cycle, from 1. `difference` is from the generation
+    /// before.
     fn began(&mut self, number: u64, cycle: u32, difference: Difference)
         ensures { (start : Self) (before : List Notice)
             → told start self.old before
             → told start self.new (before ++ Began number cycle difference ∷ []) };
 
-    /// The generation of this number stays on the air at this cycle, counted from 1, since no tree was read, for this cause.
+    /// The generation stays on the air at this cycle, from 1, because no tree was read.
     fn kept(&mut self, number: u64, cycle: u32, cause: &Unread)
         ensures { (start : Self) (before : List Notice)
             → told start self.old before
             → told start self.new (before ++ kept_notices number cycle cause.now) };
 }
 
-/// What a receiver that has one generation fetches again for the next: how many files are new, gone or have other bytes, how many modules are new
-/// or have another version, and how many bytes these have. Each number stays at its type's end.
+/// What a receiver fetches again for the next generation. Each number is at most its type's
+/// greatest.
 #[derive(Clone, Copy, Debug, PartialEq, Eq)]
 pub struct Difference {
-    /// Files.
+    /// That are new, gone or have other bytes.
     pub files: u64,
-    /// Modules.
+    /// That are new or have another version.
     pub modules: u64,
     /// Bytes in these modules.
     pub bytes: u64,
@@ -53,14 +54,13 @@ pub fn compared(before: &Generation, now: &Generation) -> Difference
     }
 }
 
-/// How many files are new, gone or have other bytes.
+/// New, gone or with other bytes.
 fn files_that_differ(before: &Tree, now: &Tree) -> u64
     ensures { result ≡ cap_at_u64 (files_changed before.now now.now) }
 {
     files_that_are_other(before, now).saturating_add(files_that_are_gone(before, now))
 }
 
-/// How many files are new or have other bytes.
 fn files_that_are_other(before: &Tree, now: &Tree) -> u64
     ensures { result ≡ cap_at_u64 (sum_by (one_if_other before.now) now.now) }
 {
@@ -71,7 +71,6 @@ fn files_that_are_other(before: &Tree, now: &Tree) -> u64
     total
 }
 
-/// How many files are gone.
 fn files_that_are_gone(before: &Tree, now: &Tree) -> u64
     ensures { result ≡ cap_at_u64 (sum_by (one_if_gone now.now) before.now) }
 {
@@ -82,7 +81,7 @@ fn files_that_are_gone(before: &Tree, now: &Tree) -> u64
     total
 }
 
-/// Whether an entry is a file that isn't there with these bytes.
+/// Whether it is a file that `tree` lacks with these bytes.
 fn is_other(tree: &Tree, entry: &(Path, Entry)) -> bool
     ensures { one_if result ≡ one_if_other tree.now entry.now }
 {
@@ -95,14 +94,14 @@ fn is_other(tree: &Tree, entry: &(Path, Entry)) -> bool
     }
 }
 
-/// Whether an entry is a file, and none is there.
+/// Whether it is a file that `tree` lacks.
 fn is_gone(tree: &Tree, entry: &(Path, Entry)) -> bool
     ensures { one_if result ≡ one_if_gone tree.now entry.now }
 {
     entry.1.is_file() && tree.content(&entry.0).is_none()
 }
 
-/// How many modules are new or have another version.
+/// New or with another version.
 fn modules_that_differ(before: &Generation, now: &Generation) -> u64
     ensures { result ≡ cap_at_u64 (modules_changed before.now now.now) }
 {
@@ -113,7 +112,6 @@ fn modules_that_differ(before: &Generation, now: &Generation) -> u64
     total
 }
 
-/// The bytes of these modules.
 fn bytes_that_differ(before: &Generation, now: &Generation) -> u64
     ensures { result ≡ cap_at_u64 (bytes_changed before.now now.now) }
 {
@@ -124,7 +122,6 @@ fn bytes_that_differ(before: &Generation, now: &Generation) -> u64
     total
 }
 
-/// The bytes of a module that is new or has another version, else none.
 fn size_if_changed(before: &Generation, now: &Generation, id: u16) -> u64
     ensures { result ≡ bytes_if_changed before.now now.now (id, 0) }
 {
@@ -134,14 +131,13 @@ fn size_if_changed(before: &Generation, now: &Generation, id: u16) -> u64
     0
 }
 
-/// Whether a module is new or has another version than in the generation before.
 fn has_changed(before: &Generation, now: &Generation, id: u16) -> bool
     ensures { result ≡ is_changed before.now now.now id }
 {
     now.count(id) != before.count(id)
 }
 
-/// The bytes of a module, none where there is no such one.
+/// 0 if there is no such module.
 fn size_of(generation: &Generation, id: u16) -> u64
     ensures { result ≡ length (unwrap_or (module_in generation.now.layout id) []) }
 {
@@ -151,7 +147,7 @@ fn size_of(generation: &Generation, id: u16) -> u64
     }
 }
 
-/// Nobody, who is told nothing.
+/// Nobody.
 #[derive(Clone, Copy, Debug, Drop)]
 pub struct NoNotices;
 

@@ -20,10 +20,11 @@ pub enum AirFault {
     /// The first tree wasn't read. Nothing was sent.
     #[error("{0}")]
     Unread(Unread),
-    /// The generation on the air has the greatest number, [`dsi_dii::LAST_GENERATION`], and another tree was read. All of its cycles were sent.
+    /// Another tree was read than that of generation [`dsi_dii::LAST_GENERATION`]. All cycles so
+    /// far were sent.
     #[error("there are 16,383 generations, the most")]
     SeasonFull,
-    /// The output failed, or there was no memory.
+    /// The output failed, or memory ran out. A prefix of the packets was written.
     #[error("{0}")]
     Output(OutputFault),
 }
@@ -59,17 +60,12 @@ impl From<AllocError> for AirFault {
     }
 }
 
-/// Sends whole cycles of a carousel on a PID. Before each of them a tree is read.
+/// Sends whole cycles of a carousel, and reads a tree before each. The first is generation 1's. A
+/// later one that differs from that on the air becomes the next generation; one that is refused or
+/// can't be read changes nothing. A generation's cycles are one group of sections.
 ///
-/// `pid` is the PID of all packets, 0 to 8,191, whose continuity counters begin with 0, `carousel` the carousel's id, any 32-bit number,
-/// `cycles` at least 1, and `weigh` says how often each module is sent in a cycle. The first tree that is read is that of generation 1. A
-/// later one that differs from the tree of the generation on the air becomes the next generation, from the cycle before which it was read. One that
-/// is refused, or can't be read, leaves the generation on the air. The cycles of one generation are one group of sections, which stand back to
-/// back. `notices` is told of each generation, and of each reading that gave no tree.
-///
-/// `Unread` comes where the first tree can't be read or is refused; nothing was sent. `SeasonFull` comes where the last generation that a
-/// carousel can have is on the air and another tree is read; all of its cycles so far were sent. After `Output` a prefix of the packets was written; want of
-/// memory, also when a tree is read later on, is one of these. These rules are this project's own.
+/// `pid` is 0 to 8,191, with continuity counters from 0. `carousel` is any 32-bit id, and `cycles`
+/// at least 1. `notices` hear of each generation, and of each reading without a tree.
 pub fn keep_on_air<T: Trees, N: Notices, O: Output>(
     alloc: Global,
     pid: u16,
@@ -80,11 +76,13 @@ pub fn keep_on_air<T: Trees, N: Notices, O: Output>(
     notices: &mut N,
     out: &mut O,
 ) -> Result<(), AirFault>
+    // What is handed in:
     requires in_range { pid < 8192 }
     requires some { 1 ≤ cycles }
     requires pending { IsFlushed (O.state out.old) }
     requires unread { T.answered trees.old trees.old [] }
     requires untold { N.told notices.old notices.old [] }
+    // What is sent:
     ensures { Airs (record { pid = pid; carousel = carousel; weights = weigh.now.weights }) cycles
         (T.answered trees.old trees.new) (N.told notices.old notices.new) result (O.state out.old)
         (O.state out.new) }
@@ -99,7 +97,7 @@ pub fn keep_on_air<T: Trees, N: Notices, O: Output>(
     Ok(())
 }
 
-/// Reads the first tree, and sends the first cycle of its generation.
+/// Reads the first tree, and sends its first cycle.
 fn begin<T: Trees, N: Notices, O: Output>(
     alloc: Global,
     pid: u16,
@@ -128,7 +126,7 @@ fn begin<T: Trees, N: Notices, O: Output>(
     Ok(playout)
 }
 
-/// Reads a tree, and sends one cycle more, of which so many are sent.
+/// `sent` cycles came before.
 fn turn<T: Trees, N: Notices, O: Output>(
     playout: &mut Playout,
     sent: u32,
@@ -154,7 +152,7 @@ fn turn<T: Trees, N: Notices, O: Output>(
     Ok(())
 }
 
-/// Reads a tree, before which so many cycles were sent, and makes it the next generation where it is another one than that on the air.
+/// Makes another tree the next generation.
 fn take_next<T: Trees, N: Notices, O: Output>(
     playout: &mut Playout,
     sent: u32,
@@ -185,7 +183,7 @@ fn take_next<T: Trees, N: Notices, O: Output>(
     Ok(())
 }
 
-/// The tree of the next generation, where one was read that differs from that of the generation on the air, of which so many cycles are sent.
+/// None if no other tree than the one on the air was read.
 fn next_tree<N: Notices>(
     playout: &Playout,
     read: Result<Publishable, Unread>,

@@ -18,7 +18,7 @@ use oc_bytes::NoMemory;
 use shell_streams::{Output, OutputFault};
 use std::alloc::Global;
 
-/// A carousel on the air: the generation that is sent, and its sections on their way to the output.
+/// The generation on the air, and its sections on their way to the output.
 #[derive(Drop)]
 pub(crate) struct Playout {
     pub(crate) sender: Sender,
@@ -26,7 +26,7 @@ pub(crate) struct Playout {
 }
 
 impl Playout {
-    /// Generation 1 of a carousel, of which nothing is sent yet, and in what it differs from the one in which nothing stands.
+    /// Generation 1, with its difference from an empty one.
     pub(crate) fn new(
         alloc: Global,
         pid: u16,
@@ -46,7 +46,6 @@ impl Playout {
         Ok((playout, difference))
     }
 
-    /// Whether this is another tree than that of the generation on the air.
     pub(crate) fn is_new(&self, tree: &Publishable) -> bool
         ensures same { result ≡ false → same_tree tree.now self.now.generation.tree ≡ true }
         ensures other { result ≡ true → same_tree tree.now self.now.generation.tree ≡ false }
@@ -54,14 +53,13 @@ impl Playout {
         !is_same_tree(tree.tree(), self.generation.tree())
     }
 
-    /// The number of the generation on the air.
     pub(crate) fn number(&self) -> u64
         ensures { result ≡ self.now.generation.number }
     {
         self.generation.number()
     }
 
-    /// Whether the generation on the air is the last that a carousel can have.
+    /// Whether a carousel can have no generation after it.
     pub(crate) fn is_last(&self) -> bool
         ensures last { result ≡ true → LAST_GENERATION ≤ self.now.generation.number }
         ensures earlier { result ≡ false → self.now.generation.number < LAST_GENERATION }
@@ -69,7 +67,7 @@ impl Playout {
         self.generation.number() >= LAST_GENERATION
     }
 
-    /// Makes the tree the next generation, and says in what it differs. The sections of this one end as a group.
+    /// The sections of the old generation end as a group.
     pub(crate) fn renew<O: Output>(
         &mut self,
         tree: Publishable,
@@ -95,7 +93,7 @@ impl Playout {
         Ok(difference)
     }
 
-    /// Sends one more cycle. All that can't change any more is written then.
+    /// All that can't change any more is written.
     pub(crate) fn send_cycle<O: Output>(
         &mut self,
         weigh: &Weigh,

@@ -7,17 +7,16 @@ use generation::Publishable;
 use std::alloc::AllocError;
 use thiserror::Error;
 
-/// Why there is no tree to be sent. The texts of paths begin with `/`, which alone is the folder itself.
+/// Why there is no tree. Texts of paths begin with `/`, which alone is the folder itself.
 #[derive(Debug, Drop, Error)]
 pub enum Unread {
-    /// The outside failed, or what was asked for isn't there. With it the text of the path that was come to last.
+    /// The outside failed, or the folder isn't there. The path is the last one tried.
     #[error("{0} could not be read")]
     Failed(String),
-    /// What stands there makes no tree that can be sent. With it the text of the path at fault, where there is one that the refusal itself
-    /// doesn't have.
+    /// The tree can't be sent. The path at fault is given if the refusal lacks it.
     #[error("the tree is refused: {0}")]
     Refused(TreeFault, Option<String>),
-    /// There is no memory.
+    /// Memory ran out.
     #[error("out of memory")]
     NoMemory,
 }
@@ -36,7 +35,6 @@ impl From<AllocError> for Unread {
 impl Unread {
     ghost use Rattle.folder_playout.specs.Readings.{is_no_memory as lacks_memory};
 
-    /// Whether there was no memory, which says nothing of what stands there.
     pub(crate) fn is_no_memory(&self) -> bool
         ensures { result ≡ lacks_memory self.now }
     {
@@ -44,15 +42,15 @@ impl Unread {
     }
 }
 
-/// Where the trees come from that are to be on the air. This trait is this project's own.
+/// Where trees come from.
 pub trait Trees {
     ghost use Rattle.std.specs.Prelude.{List};
     ghost use Rattle.folder_playout.specs.Readings.{Reading};
 
-    /// From the first value on to the second these were the answers, in order, and no other.
+    /// From the first value to the second exactly these answers were given, in order.
     ghost answered: { Self → Self → List Reading → Type 0 };
 
-    /// The tree that stands there now, which can be sent, with its objects and their sizes. What was read before is no part of the answer.
+    /// The tree that is there now. Earlier readings have no part in it.
     fn read(&mut self) -> Result<Publishable, Unread>
         ensures publishable { IfOk result IsPublishable }
         ensures answered { (start : Self) (before : List Reading)

@@ -3,7 +3,7 @@ ghost use Rattle.folder_playout.specs.OnAir.{same_entry, same_node, same_tree};
 
 use path_tree::{Entry, Path, Tree};
 
-/// Whether two trees have the same files and kept folders at the same paths.
+/// The same files and kept folders at the same paths.
 pub(crate) fn is_same_tree(tree: &Tree, other: &Tree) -> bool
     ensures { result ≡ same_tree tree.now other.now }
 {
@@ -16,7 +16,6 @@ pub(crate) fn is_same_tree(tree: &Tree, other: &Tree) -> bool
             .all(|(one, another)| is_same_entry(one, another))
 }
 
-/// Whether two entries have one path, and are files of the same bytes or kept folders.
 fn is_same_entry(one: &(Path, Entry), another: &(Path, Entry)) -> bool
     ensures { result ≡ same_entry one.now another.now }
 {

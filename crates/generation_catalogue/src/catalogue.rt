@@ -16,7 +16,7 @@ use path_tree::{Edit, Edits};
 use std::alloc::Global;
 use std::sync::Arc;
 
-/// The history of one carousel, with its current generation and the weights of its modules.
+/// The history of one carousel, with its current generation and its modules' weights.
 #[derive(Drop)]
 pub struct Catalogue {
     journal: Journal,
@@ -27,8 +27,8 @@ pub struct Catalogue {
 impl Catalogue {
     ghost use Rattle.generation_catalogue.specs.View.{state};
 
-    /// The catalogue of a carousel, any 32-bit id, whose modules are sent as often as they weigh: without an entry, at generation 0,
-    /// whose tree is empty. Out of memory is the only refusal.
+    /// A catalogue at generation 0, whose tree is empty, without an entry. `carousel` is any 32-bit
+    /// id.
     pub fn new(alloc: Global, carousel: u32, weigh: Weigh) -> Result<Catalogue, NoMemory>
         ensures { IfOk result (λ c.
             state c ≡ record { carousel = carousel; weights = weigh.weights; entries = [] }) }
@@ -37,7 +37,7 @@ impl Catalogue {
         Ok(Catalogue { journal, weigh })
     }
 
-    /// The catalogue of a history and of what answers its weights. Takes no memory.
+    /// Takes no memory.
     pub fn of(journal: Journal, weigh: Weigh) -> Catalogue
         requires { weigh.weights ≡ journal.weights }
         ensures { state result ≡ journal }
@@ -54,32 +54,27 @@ impl Catalogue {
         (journal, weigh)
     }
 
-    /// Makes the next generation by edits of the current one's tree, in order, and answers its number, 1 to [`dsi_dii::LAST_GENERATION`]. No
-    /// edits make a generation of the same tree. `editor` is the number of whoever commits; it is only entered.
+    /// Makes the next generation by these edits of the current tree, and answers its number, 1 to
+    /// [`dsi_dii::LAST_GENERATION`]. No edits give the same tree again. `editor` is only entered.
     ///
-    /// The refusals come in the order of `Refusal`, each exactly where its number passes its limit. A commit that is
-    /// accepted, or refused by an edit or by one of the limits of a tree, makes one entry; that the season or the journal is
-    /// full makes none. Out of memory makes none, and changes nothing; it comes only where neither is full. After an accepted
-    /// commit the next draw begins at the first item of the new generation's cycle.
+    /// A full season or journal makes no entry; any other refusal makes one. `Refusal` has the
+    /// order. Out of memory changes nothing, and comes only if neither is full.
     pub fn commit(&mut self, editor: u32, edits: Vec<Edit>) -> Result<u64, CommitFault>
         ensures { IsCommitted (state self.old) editor edits.items result (state self.new) }
     {
         self.commit_edits(editor, Edits::new(edits))
     }
 
-    /// The same as `commit`, of edits that are a list already.
+    /// `commit`, of edits that are a list already.
     pub fn commit_edits(&mut self, editor: u32, edits: Edits) -> Result<u64, CommitFault>
         ensures { IsCommitted (state self.old) editor edits result (state self.new) }
     {
         self.journal.commit_edits(editor, edits)
     }
 
-    /// Draws the items that are to be sent next: those of the current generation's weighted cycle from the end of the last draw on, or
-    /// from the first on where that was the cycle's end, or where the generation is new. They are `n`, 1 to [`cycle_planner::MOST_DRAWN`], or as
-    /// many as are left in the cycle, at least one.
-    ///
-    /// `DrawsFull` comes exactly where [`MOST_DRAWS`](crate::MOST_DRAWS) draws are entered. Each other draw makes one entry, except out of memory,
-    /// which changes nothing and comes only where there is room for the entry.
+    /// Draws the next `n` items of the cycle, 1 to [`cycle_planner::MOST_DRAWN`], or as many as are
+    /// left. A new generation or an ended cycle begins at the first item. `DrawsFull` comes if
+    /// [`MOST_DRAWS`](crate::MOST_DRAWS) draws are entered; out of memory changes nothing.
     pub fn draw(&mut self, n: u32) -> Result<Batch, DrawFault>
         requires { (1 ≤ n) × (n ≤ MOST_DRAWN) }
         ensures drawn { IsDrawn (state self.old) n result (state self.new) }
@@ -89,8 +84,7 @@ impl Catalogue {
         self.journal.draw(&self.weigh, n)
     }
 
-    /// The entries, the oldest first. Each is what the rules give after the entries before it. The trees of the accepted
-    /// commits can be published, so the layouts of the generations, that of the empty tree first, are lawful for them.
+    /// The entries, the oldest first. The trees of accepted commits can be published.
     pub fn entries(&self) -> &[Entry]
         ensures entries { result.now ≡ (state self.now).entries }
         ensures history { IsHistory (state self.now) }
@@ -102,8 +96,7 @@ impl Catalogue {
         self.journal.entries()
     }
 
-    /// The current generation: the one that the entries replay to. Its tree is that of the last accepted commit, and its
-    /// number is how many commits were accepted.
+    /// The current generation: that of the last accepted commit. Its number counts these.
     pub fn current(&self) -> &Arc<Generation>
         ensures { arc_value result.now ≡ current_of (state self.now) }
     {

@@ -15,25 +15,26 @@ use thiserror::Error;
 /// Why a commit is refused: the first of these that holds.
 #[derive(Debug, Drop, Error)]
 pub enum Refusal {
-    /// The current generation has this number, [`dsi_dii::LAST_GENERATION`], the greatest.
+    /// The current generation's number, [`dsi_dii::LAST_GENERATION`].
     #[error("the generation number is {0}, the greatest")]
     SeasonFull(u64),
-    /// The bytes put by all entries and by this commit, which are these, are more than [`MOST_PUT_BYTES`](crate::MOST_PUT_BYTES).
+    /// The bytes put by all entries and this commit, more than
+    /// [`MOST_PUT_BYTES`](crate::MOST_PUT_BYTES).
     #[error("all entries put {0} bytes, more than 536,870,912")]
     JournalFull(u64),
-    /// The edit at this place, counted from 0, has this fault.
+    /// The place of an edit, from 0, and its fault.
     #[error("edit {0}: {1}")]
     Edit(usize, EditFault),
-    /// The tree would have so many objects, more than [`generation::MOST_OBJECTS`].
+    /// How many objects, more than [`generation::MOST_OBJECTS`].
     #[error("there would be {0} objects, more than 8,192")]
     TooManyObjects(u32),
-    /// The object of this folder would have more than [`biop_object::MOST_FOLDER_SIZE`] bytes.
+    /// The folder whose object has more than [`biop_object::MOST_FOLDER_SIZE`] bytes.
     #[error("the object of folder {0} would have more than 1,048,576 bytes")]
     FolderTooLarge(Path),
-    /// The objects would have so many bytes, more than [`dsi_dii::MOST_TOTAL_SIZE`].
+    /// The objects' bytes, more than [`dsi_dii::MOST_TOTAL_SIZE`].
     #[error("the objects would have {0} bytes, more than 268,435,456")]
     TooManyBytes(u64),
-    /// The objects would take so many modules, more than [`cycle_planner::GREATEST_ID`].
+    /// How many modules, more than [`cycle_planner::GREATEST_ID`].
     #[error("the objects would take {0} modules, more than 2,224")]
     TooManyModules(usize),
 }
@@ -54,7 +55,7 @@ impl Refusal {
         })
     }
 
-    /// Whether a commit that is refused so makes an entry.
+    /// Whether such a commit makes an entry.
     pub fn is_entered(&self) -> bool
         ensures { result ≡ is_entered (Err self.now) }
     {
@@ -65,7 +66,7 @@ impl Refusal {
 /// Why a commit gives no generation.
 #[derive(Debug, Drop, Error)]
 pub enum CommitFault {
-    /// The commit is refused.
+    /// By the rules.
     #[error("the commit is refused: {0}")]
     Refused(Refusal),
     /// Out of memory.
@@ -113,15 +114,14 @@ impl From<Limit> for CommitFault {
 /// One entry of the history.
 #[derive(Drop)]
 pub enum Entry {
-    /// A commit: the number of the editor who made it, its edits, and the number of the generation that it made, or why it
-    /// was refused.
+    /// The editor's number, the edits, and the new generation's number or why there is none.
     Commit {
         editor: u32,
         edits: Edits,
         outcome: Result<u64, Refusal>,
     },
-    /// A draw: how many items were asked for, 1 to [`cycle_planner::MOST_DRAWN`], the number of the generation of which they are, the place in its
-    /// cycle of the first, counted from 0, and how many were given.
+    /// How many items were asked for, 1 to [`cycle_planner::MOST_DRAWN`], their generation's
+    /// number, the first one's place in the cycle, from 0, and how many were given.
     Draw {
         asked: u32,
         generation: u64,
@@ -133,7 +133,7 @@ pub enum Entry {
 /// Why a draw gives no items.
 #[derive(Debug, Drop, Error)]
 pub enum DrawFault {
-    /// So many draws are entered already, [`MOST_DRAWS`](crate::MOST_DRAWS).
+    /// [`MOST_DRAWS`](crate::MOST_DRAWS), which are entered already.
     #[error("{0} draws are entered, the most")]
     DrawsFull(u64),
     /// Out of memory.
@@ -149,13 +149,13 @@ impl From<AllocError> for DrawFault {
     }
 }
 
-/// Items of a generation that are to be sent next, as they follow each other in its cycle.
+/// Items to be sent next, in the cycle's order.
 #[derive(Drop)]
 pub struct Batch {
-    /// The generation, the current one at the draw.
+    /// The current generation at the draw.
     pub generation: Arc<Generation>,
-    /// The place in the cycle of the first item, counted from 0.
+    /// The first item's place in the cycle, from 0.
     pub first: u64,
-    /// The items, at least one.
+    /// At least one.
     pub items: Vec<Item>,
 }

@@ -22,14 +22,13 @@ use std::alloc::Global;
 use std::marker::Model;
 use std::sync::Arc;
 
-/// The most bytes that the entries of a history put. This project's own limit.
+/// The most bytes that a history's entries put.
 pub const MOST_PUT_BYTES: u64 = 536_870_912;
 
-/// The most draws that are entered. This project's own limit.
+/// The most draws that are entered.
 pub const MOST_DRAWS: u64 = 16_777_216;
 
-/// The history of one carousel, with its current generation, and the list of the weights of its modules, without the closure that
-/// answers them: what a `Catalogue` keeps beside its `Weigh`. It can be kept where no closure can, as under a lock.
+/// A `Catalogue` without the closure of its weights, so that a lock can keep it.
 #[derive(Drop)]
 pub struct Journal {
     alloc: Global,
@@ -43,8 +42,8 @@ pub struct Journal {
     stand: Option<Stand>,
 }
 
-/// Where a draw begins, kept from one to the next so that only the first of a generation goes over all lines: how many items the
-/// cycle has, a walk before its first item, and one before the item at the cursor.
+/// Where a draw begins: the cycle's length, a walk before its first item, and one at the cursor. It
+/// is kept, because only a generation's first draw goes over all lines.
 #[derive(Clone, Copy, Debug)]
 pub struct Stand {
     length: u64,
@@ -66,8 +65,8 @@ impl Model for Journal {
 }
 
 impl Journal {
-    /// The history of a carousel, any 32-bit id, whose modules have these weights, each 1 to 8, from module 1 on: without an entry,
-    /// at generation 0, whose tree is empty. Out of memory is the only refusal.
+    /// A history at generation 0, whose tree is empty. `carousel` is any 32-bit id, and each
+    /// weight, from module 1 on, is 1 to 8.
     pub fn new(
         alloc: Global,
         carousel: u32,
@@ -92,7 +91,7 @@ impl Journal {
         })
     }
 
-    /// The entries, the oldest first. Each is what the rules give after the entries before it.
+    /// The entries, the oldest first.
     pub fn entries(&self) -> &[Entry]
         ensures entries { result.now ≡ self.now.entries }
         ensures history { IsHistory self.now }
@@ -100,14 +99,14 @@ impl Journal {
         &self.entries
     }
 
-    /// The current generation: the one that the entries replay to.
+    /// The current generation.
     pub fn current(&self) -> &Arc<Generation>
         ensures { arc_value result.now ≡ current_of self.now }
     {
         &self.current
     }
 
-    /// Makes the next generation by edits of the current one's tree, and answers its number: what `Catalogue::commit` says.
+    /// What `Catalogue::commit` does.
     pub fn commit_edits(&mut self, editor: u32, edits: Edits) -> Result<u64, CommitFault>
         ensures { IsCommitted self.old editor edits result self.new }
     {
@@ -118,7 +117,7 @@ impl Journal {
         }
     }
 
-    /// The generation that these edits make of the current one, if nothing refuses them.
+    /// The generation that the edits make, if nothing refuses them.
     fn judge(&self, edits: &[Edit]) -> Result<Generation, CommitFault>
         ensures answer { Gives (λ g. g.number) commit_cause result (outcome_of self.now edits.now) }
         ensures next { IfOk result (λ g. g ≡ generation_after self.now edits.now) }
@@ -138,7 +137,7 @@ impl Journal {
         Ok(self.current.next_after(publishable, edits)?)
     }
 
-    /// The bytes that the entries and these edits put, or the greatest `u64`.
+    /// At most the greatest `u64`.
     fn total_with(&self, edits: &[Edit]) -> u64
         ensures { result ≡ cap_at_u64 (journal_of self.now + put_bytes edits.now) }
     {
@@ -149,11 +148,12 @@ impl Journal {
         total
     }
 
-    /// Enters a commit that makes the next generation, and answers its number. Out of memory changes nothing.
     fn accept(&mut self, editor: u32, edits: Edits, next: Generation) -> Result<u64, NoMemory>
         requires accepted { outcome_of self.old edits ≡ Ok next.number }
+        // The generation that is made:
         requires next { next ≡ generation_after self.old edits }
         requires tree { IsPublishable next.tree }
+        // What is answered, and what is left:
         ensures number { IfOk result (λ n. n ≡ next.number) }
         ensures entered { OnOk result (self.new ≡ with_commit self.old editor edits) }
         ensures unchanged { OnErr result (self.new ≡ self.old) }
@@ -173,7 +173,7 @@ impl Journal {
         Ok(number)
     }
 
-    /// Enters a commit that is refused, where that makes an entry, and gives its answer.
+    /// Enters the refusal, if such a one makes an entry.
     fn refused(&mut self, editor: u32, edits: Edits, refusal: Refusal) -> CommitFault
         requires { outcome_of self.old edits ≡ Err refusal }
         ensures answer { (result ≡ CommitFault.Refused refusal) ⊎ (result ≡ CommitFault.NoMemory) }
@@ -194,7 +194,6 @@ impl Journal {
         CommitFault::Refused(refusal)
     }
 
-    /// Enters a commit that is refused. Out of memory changes nothing.
     fn refuse(&mut self, editor: u32, edits: Edits, refusal: Refusal) -> Result<(), NoMemory>
         requires refused { outcome_of self.old edits ≡ Err refusal }
         requires entered { is_entered (Err refusal) ≡ true }
@@ -211,8 +210,8 @@ impl Journal {
         Ok(())
     }
 
-    /// Draws at most so many items of the cycle, 1 to [`cycle_planner::MOST_DRAWN`]: what `Catalogue::draw` says. The weights have to be those of this
-    /// history. The first draw of a generation goes over all its lines; each other one takes a walk's steps alone, one for an item.
+    /// What `Catalogue::draw` does. The weights have to be this history's. After a generation's
+    /// first draw each takes one step an item.
     pub fn draw(&mut self, weigh: &Weigh, asked: u32) -> Result<Batch, DrawFault>
         requires asked { (1 ≤ asked) × (asked ≤ MOST_DRAWN) }
         requires weights { weigh.now.weights ≡ self.old.weights }
@@ -224,7 +223,6 @@ impl Journal {
         self.draw_next(weigh, asked)
     }
 
-    /// The same, without what follows of the items.
     fn draw_next(&mut self, weigh: &Weigh, asked: u32) -> Result<Batch, DrawFault>
         requires asked { (1 ≤ asked) × (asked ≤ MOST_DRAWN) }
         requires weights { weigh.now.weights ≡ self.old.weights }
@@ -244,7 +242,7 @@ impl Journal {
         })
     }
 
-    /// Where the next draw begins: as the draw before it left it, or made of all lines where it is the first of its generation.
+    /// Made of all lines for a generation's first draw.
     fn stand_now(&self, weigh: &Weigh) -> Stand
         requires { weigh.now.weights ≡ self.now.weights }
         ensures { StandsIn self.now (cursor_of self.now) result }
@@ -263,7 +261,7 @@ impl Journal {
         }
     }
 
-    /// The items of the cycle from the cursor on, at most so many, and where a walk stands behind them.
+    /// At most `asked` items, and the walk after them.
     fn next_items(&self, weigh: &Weigh, asked: u32) -> Result<(Vec<Item>, Stand), NoMemory>
         requires { weigh.now.weights ≡ self.now.weights }
         ensures items { IfOk result (λ p. p.0.items ≡ items_drawn self.now asked) }
@@ -278,12 +276,13 @@ impl Journal {
         Ok((items, moved(stand, next)))
     }
 
-    /// Enters a draw of so many items from the cursor on, behind which a walk stands so. Out of memory changes nothing.
     fn enter_draw(&mut self, asked: u32, count: u64, stand: Stand) -> Result<(), NoMemory>
         requires asked { (1 ≤ asked) × (asked ≤ MOST_DRAWN) }
         requires count { count ≡ count_drawn self.old asked }
+        // What is known of the walk and the entries:
         requires stand { StandsIn self.old (cursor_of self.old + count_drawn self.old asked) stand }
         requires room { draws_of self.old < MOST_DRAWS }
+        // What is left:
         ensures entered { OnOk result (self.new ≡ with_draw self.old asked) }
         ensures unchanged { OnErr result (self.new ≡ self.old) }
     {
@@ -303,7 +302,7 @@ impl Journal {
     }
 }
 
-/// The same cycle, in which the next draw begins where a walk stands.
+/// The same cycle from `next` on.
 fn moved(stand: Stand, next: Walk) -> Stand
     ensures { result ≡ with_next stand next }
 {
@@ -314,7 +313,7 @@ fn moved(stand: Stand, next: Walk) -> Stand
     }
 }
 
-/// The same cycle, in which the next draw begins at its first item where the cursor went back to it.
+/// From the first item, if the cursor is 0.
 fn at_place(stand: Stand, cursor: u64) -> Stand
     ensures { result ≡ (if cursor == 0 then with_next stand stand.first else stand) }
 {
@@ -325,7 +324,6 @@ fn at_place(stand: Stand, cursor: u64) -> Stand
     }
 }
 
-/// So many items that a walk comes to next, and the walk behind them.
 fn taken(
     alloc: Global,
     lines: &[(u16, u32)],
@@ -353,7 +351,7 @@ fn taken(
     Ok((items, walk))
 }
 
-/// The place after so many items of a cycle: at its end, that of its first item again.
+/// After a cycle's last item comes place 0.
 fn place_after(first: u64, count: u64, length: u64) -> u64
     requires { first + count ≤ length }
     ensures { result ≡ (if first + count == length then 0 else first + count) }
@@ -362,7 +360,6 @@ fn place_after(first: u64, count: u64, length: u64) -> u64
     if end == length { 0 } else { end }
 }
 
-/// The bytes that an edit puts.
 fn size_put(edit: &Edit) -> u64
     ensures { result ≡ put_size edit.now }
 {

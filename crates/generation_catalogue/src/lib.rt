@@ -1,10 +1,9 @@
-//! The history of one carousel's generations: what was committed, in order, and the generation that it leads to.
+//! The history of one carousel's generations: all commits and draws in order, and the generation
+//! that they lead to.
 //!
-//! Each commit edits the tree of the generation before it. The catalogue keeps an entry of every commit that it accepts,
-//! and of every one that its edits or the limits of a generation refuse, so that the entries replay to the current
-//! generation. Each draw gives the items that are to be sent next of the current generation's cycle, in which a module is
-//! sent as often as it weighs, and makes an entry too, so that the entries also replay to the place in the cycle. The limits
-//! are this project's own rules.
+//! Each commit edits the tree of the generation before it. Each draw gives the next items of the
+//! current generation's cycle. The entries replay to the current generation and the place in its
+//! cycle. The limits are this project's own.
 //!
 //! ```
 //! use cycle_planner::GREATEST_ID;

@@ -1,4 +1,4 @@
-//! One history: what is lent becomes values of one's own, whose bytes and names are shared, and not copied.
+//! One history. What is lent is shared in it, so that no bytes or names are copied.
 ghost use Rattle.std.specs.Prelude.{◌≡◌, ◌++◌, IfOk, OnOk, map, flat_map};
 ghost use Rattle.std.specs.List.{range_with_len};
 ghost use Rattle.carousel_world.specs.Events.{Commit, Draw};
@@ -17,18 +17,17 @@ use std::alloc::Global;
 /// The greatest number of a reader.
 const LAST_READER: u32 = 64;
 
-/// The history of a session: the entries in their order, each as its event and reply, and after each draw the opens whose shots had
-/// heard so many draws.
+/// The history of a session: the entries in order, as events with replies, and after each draw the
+/// opens whose shots had heard that many draws.
 ///
-/// - `entries`: those of the catalogue.
-/// - `fates`: for each draw among them, what happened to its packets.
-/// - `editors`: the editors' numbers. A commit's entry has its editor's place in this list, counted from 0, and its event the number.
-/// - `passes`: those of the readers. Their numbers are 1 to 64, and no two share one. Along a reader's opens the count of draws never
-///   falls, and it is at most the number of draws.
+/// - `entries`: the catalogue's.
+/// - `fates`: for each draw, its packets' fates.
+/// - `editors`: their numbers. An entry has an editor's place in this list, from 0; its event has
+///   the number.
+/// - `passes`: the readers', with numbers 1 to 64, each once. A reader's counts of draws never
+///   fall.
 ///
-/// The opens whose shots had heard k draws stand after the k-th draw and before the next entry; those of none stand before all
-/// entries. Among them stand those of the reader with the least number first, and one reader's in its own order. Bytes and names
-/// are shared, and not copied. Out of memory is the only refusal. The order is this project's own rule.
+/// Opens after the same draw are ordered by reader, and each reader's are in its own order.
 pub fn merge(
     alloc: Global,
     entries: &[Entry],
@@ -76,7 +75,6 @@ pub fn merge(
     Ok(told)
 }
 
-/// A commit as an event and its reply.
 fn told_commit(
     alloc: Global,
     editor: u32,
@@ -94,7 +92,6 @@ fn told_commit(
     Ok((Event::Commit { editor, edits }, reply))
 }
 
-/// A draw of so many items, under these fates, as an event and its reply.
 fn told_draw(asked: u32, fates: &Vec<Fate>, reply: Reply) -> Result<(Event, Reply), NoMemory>
     ensures { IfOk result (λ x. known_view x ≡ (Draw asked fates.now.items, reply)) }
 {
@@ -105,7 +102,6 @@ fn told_draw(asked: u32, fates: &Vec<Fate>, reply: Reply) -> Result<(Event, Repl
     Ok((event, reply))
 }
 
-/// The same edits again.
 fn edits_again(alloc: Global, edits: &Edits) -> Result<Edits, NoMemory>
     ensures { IfOk result (λ e. e ≡ edits.now) }
 {
@@ -117,7 +113,6 @@ fn edits_again(alloc: Global, edits: &Edits) -> Result<Edits, NoMemory>
     Ok(Edits::new(list))
 }
 
-/// An open as an event and its reply.
 fn told_open(reader: u32, opened: &OpenEntry) -> Result<(Event, Reply), NoMemory>
     ensures { IfOk result (λ x. known_view x ≡ opened_of reader opened.now) }
 {
@@ -132,7 +127,7 @@ fn told_open(reader: u32, opened: &OpenEntry) -> Result<(Event, Reply), NoMemory
     Ok((event, reply))
 }
 
-/// The opens of one reader that aren't in the history yet, in the reader's order.
+/// A reader's opens that aren't in the history yet.
 #[derive(Clone, Copy)]
 struct Waiting<'a> {
     reader: u32,
@@ -140,7 +135,7 @@ struct Waiting<'a> {
 }
 
 impl<'a> Waiting<'a> {
-    /// Tells those of the opens whose shots had heard so many draws. They are the first ones, and wait no more.
+    /// Tells the opens whose shots had heard this many draws; they are the first.
     fn tell(&mut self, draws: u64, told: &mut Vec<(Event, Reply)>) -> Result<(), NoMemory>
         requires { Climb draws self.old.opens.now }
         ensures { OnOk result (HasTold draws (view_waiting self.old) (view_waiting self.new)
@@ -157,7 +152,6 @@ impl<'a> Waiting<'a> {
     }
 }
 
-/// Tells the opens of all readers whose shots had heard so many draws, one reader after the other.
 fn tell_all(
     waiting: &mut [Waiting<'_>],
     draws: u64,
@@ -174,7 +168,7 @@ fn tell_all(
     Ok(())
 }
 
-/// The opens of all readers, by the readers' numbers.
+/// By readers' numbers.
 fn by_number<'a>(alloc: Global, passes: &'a [ReaderPass]) -> Result<Vec<Waiting<'a>>, NoMemory>
     ensures { IfOk result (λ new.
         map view_waiting new.items ≡ flat_map (waited_by passes.now) (range_with_len 1 64)) }
@@ -186,7 +180,6 @@ fn by_number<'a>(alloc: Global, passes: &'a [ReaderPass]) -> Result<Vec<Waiting<
     Ok(waiting)
 }
 
-/// Puts the opens of the reader of this number after the others.
 fn push_reader<'a>(
     passes: &'a [ReaderPass],
     number: u32,

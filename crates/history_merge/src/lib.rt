@@ -1,5 +1,5 @@
-//! One history of a session out of its parts: the entries of its catalogue in their order, and after each draw the opens whose shots
-//! had heard so many draws. The order of it is this project's own.
+//! One history of a session out of its parts: the catalogue's entries in order, and after each draw
+//! the opens that had heard that many. The order is this project's own.
 //!
 //! A commit and a draw, and a reader who opened a path before both:
 //!

@@ -14,7 +14,7 @@ use std::alloc::Global;
 pub trait Answerer {
     ghost use Rattle.receiver_commands.specs.Open.{AllAnswers};
 
-    /// These are its answers to all paths.
+    /// All its answers.
     ghost answers: { Self → AllAnswers → Type 0 };
 
     /// Puts the answer to one path, and says whether it is a file or a folder.
@@ -51,7 +51,7 @@ impl Answerer for Shot {
     }
 }
 
-/// Writes the answers to the paths, in order, and says whether each is a file or a folder.
+/// Writes the answers in order, and says whether each is a file or a folder.
 pub fn write_answers<A: Answerer, O: Output>(
     alloc: Global,
     answerer: &A,
@@ -82,7 +82,7 @@ pub(crate) fn both(one: bool, other: bool) -> bool
     one && other
 }
 
-/// Puts the line of a path and its answer, and what follows it, and says whether it is a file or a folder.
+/// The path's line, and what follows it.
 pub(crate) fn put_entry<O: Output>(
     alloc: Global,
     path: &Path,
@@ -98,7 +98,6 @@ pub(crate) fn put_entry<O: Output>(
     Ok(is_found(answer))
 }
 
-/// Puts the line of a path and its answer.
 pub(crate) fn put_line<O: Output>(
     alloc: Global,
     path: &Path,
@@ -112,7 +111,7 @@ pub(crate) fn put_line<O: Output>(
     out.put(line.as_bytes())
 }
 
-/// Puts what follows the line: a file's bytes and a line feed, or a folder's names, each on a line.
+/// A file's bytes and a line feed, or a folder's names, each on a line.
 fn put_tail<O: Output>(alloc: Global, answer: &Answer, out: &mut O) -> Result<(), OutputFault>
     ensures { Puts result (O.state out.old) (O.state out.new) (texts.tail_of answer.now) }
 {
@@ -140,7 +139,6 @@ fn put_names<O: Output>(alloc: Global, folder: &FolderRef, out: &mut O) -> Resul
     Ok(())
 }
 
-/// Puts the text of a name on a line.
 pub(crate) fn put_name<O: Output>(
     alloc: Global,
     name: &[u8],

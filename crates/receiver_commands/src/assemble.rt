@@ -19,10 +19,10 @@ use oc_bytes::{NoMemory, Source};
 use shell_streams::{Carrier, Listener, Output, OutputFault, hear_all};
 use std::alloc::Global;
 
-/// The most sections that are taken. This project's own limit.
+/// The most sections that are taken.
 pub const MOST_ASSEMBLED: u32 = 65_536;
 
-/// The bytes of each block of the module but its last. This project's own choice: as many as are written.
+/// The bytes of each block of the module but its last: the most that a block has.
 pub const ASSEMBLED_BLOCK: u16 = 4_066;
 
 /// The module that is asked for.
@@ -32,13 +32,12 @@ pub struct Wanted {
     pub id: u16,
     /// Its version, any 8-bit number.
     pub version: u8,
-    /// How many bytes it has, at most [`block_assembler::MOST_MODULE_SIZE`].
+    /// Its size in bytes, at most [`block_assembler::MOST_MODULE_SIZE`].
     pub size: u32,
-    /// The id of the download that its blocks name, any 32-bit number.
+    /// The id of its blocks' download, any 32-bit number.
     pub download: u32,
 }
 
-/// The blocks of the module so far.
 #[derive(Drop)]
 struct Gatherer {
     wanted: Wanted,
@@ -56,15 +55,9 @@ impl Listener for Gatherer {
     }
 }
 
-/// Writes the module that is asked for, out of the sections that stand back to back in the source: of each of its blocks, which have
-/// [`ASSEMBLED_BLOCK`] bytes but for the last, the first that fits (ISO/IEC 13818-6, 7.3.7.1). All else that they carry is passed over.
-///
-/// The whole input is read first. `ReadFault` comes where the source fails, and `InputTooLong` exactly where [`MOST_ASSEMBLED`] sections were
-/// taken and at least a byte more is read; nothing is written then. Nor is it where `Incomplete` comes, exactly where a block is missing: it
-/// has the least number of one. `Done` comes where the whole module was written. After `WriteFault`, where the sink fails, and after
-/// `NoMemory` a prefix of it was written. No other status comes. These rules are this project's own.
-///
-/// Nothing may be pending in the output when it is called.
+/// Writes the module that is asked for, out of sections back to back: of each block the first that
+/// fits (ISO/IEC 13818-6, 7.3.7.1). The whole input is read before anything is written, and nothing
+/// is written if a block is missing.
 pub fn assemble<S: Source, O: Output>(
     alloc: Global,
     wanted: Wanted,
@@ -95,7 +88,6 @@ pub fn assemble<S: Source, O: Output>(
     }
 }
 
-/// Writes the module where no block of it is missing.
 fn write_module<O: Output>(assembler: &Assembler, out: &mut O) -> Status
     requires { IsFlushed (O.state out.old) }
     ensures writes { IsModule assembler.now.blocks (out_over O.state out.old out.new) result }
@@ -122,7 +114,7 @@ fn write_all<O: Output>(bytes: &[u8], out: &mut O) -> Result<(), OutputFault>
     out.flush()
 }
 
-/// Offers the block that a section carries, where it is one of the wanted. The block's bytes are lent up to the assembler.
+/// The block's bytes are lent up to the assembler.
 fn offer_section(wanted: Wanted, section: &[u8], assembler: &mut Assembler)
     ensures { (sections : List Bytes)
         → HasBlocks (asked_of wanted) assembler.old sections
@@ -135,7 +127,6 @@ fn offer_section(wanted: Wanted, section: &[u8], assembler: &mut Assembler)
     }
 }
 
-/// Whether it is a block of the module.
 fn is_wanted(wanted: Wanted, block: &Parts<'_>) -> bool
     ensures { result ≡ ((block.now.download == wanted.download)
         && (block.now.module == wanted.id)
@@ -146,7 +137,6 @@ fn is_wanted(wanted: Wanted, block: &Parts<'_>) -> bool
         && block.version == wanted.version
 }
 
-/// The block message that a section carries.
 fn block_in(section: &[u8]) -> Option<Parts<'_>>
     ensures { option_map ddb.parts_view result ≡ block_heard section.now }
 {

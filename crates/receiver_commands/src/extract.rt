@@ -12,18 +12,9 @@ use oc_bytes::Source;
 use shell_streams::{Carrier, Output, OutputFault};
 use std::alloc::Global;
 
-/// Writes each file and folder that the packets of the source bring on the PID `pid`, 0 to 8,190, into the folder `folder`, which is made, and
-/// a line of each path of `list` after that. A path text of the store is `folder`, and behind it the path's names.
-///
-/// The whole input is read before anything is made. `ReadFault` comes where the source fails, and `InputTooLong` exactly where
-/// [`shell_streams::MOST_PACKETS`] packets were taken and at least a byte more is read; nothing is made or written then. `Done` comes where
-/// each path is a file or a folder, each of them was written, and the whole text was, and `NotAll` where some of them is none or was
-/// passed over. `FolderFault` comes where the store fails, where something stands at a path already, as at `folder` itself, or where the
-/// folder above it isn't there; all before that path was written, and the lines of it. After `WriteFault`, where the sink fails, and after
-/// `NoMemory` the first files and folders were written, each whole, and a prefix of the text. No other status comes. These rules are this
-/// project's own.
-///
-/// Nothing may be pending in the output when it is called.
+/// Extracts the files and folders on the PID `pid`, 0 to 8,190, into the folder `folder`, which it
+/// makes, and then writes a line of each path of `list`. The whole input is read before anything is
+/// made. A store's path is `folder` and the path's names.
 pub fn extract<S: Source, O: Output, T: Store>(
     alloc: Global,
     pid: u16,
@@ -44,7 +35,6 @@ pub fn extract<S: Source, O: Output, T: Store>(
     }
 }
 
-/// The status of an extraction.
 fn status_of(ended: Result<Extracted, OutputFault>) -> Status
     ensures { result ≡ extract_status ended }
 {

@@ -15,7 +15,6 @@ use psi_tables::{Find, Finder};
 use shell_streams::{InputFault, Output, OutputFault, PacketListener, hear_all_packets};
 use std::alloc::Global;
 
-/// The finder as a listener.
 #[derive(Drop)]
 struct Seeking {
     finder: Finder,
@@ -34,16 +33,9 @@ impl PacketListener for Seeking {
     }
 }
 
-/// Writes where the carousel of the id `carousel`, any 32-bit number, is, by the program association table and the map tables
-/// (ISO/IEC 13818-1, 2.4.4) in the packets of the source: its PID in decimal, or `no-pat` where no section of the PAT came, or
-/// `not-named` where no map table in force names it, on a line.
-///
-/// The whole input is read first; a last piece of fewer than 188 bytes is passed over. `ReadFault` comes where the source fails, and
-/// `InputTooLong` exactly where [`shell_streams::MOST_PACKETS`] packets were taken and at least a byte more is read; nothing is written then. `NotAll`
-/// comes exactly where no PID is written. After `WriteFault`, where the sink fails, and after `NoMemory` a prefix of the line was
-/// written. No other status but `Done` comes. The texts are this project's own.
-///
-/// Nothing may be pending in the output when it is called.
+/// Writes the PID of the carousel of the id `carousel`, any 32-bit number, by the PAT and the map
+/// tables (ISO/IEC 13818-1, 2.4.4). The line is `no-pat` if no section of the PAT came, and
+/// `not-named` if no map table in force names it. The whole input is read first.
 pub fn find<S: Source, O: Output>(
     alloc: Global,
     carousel: u32,
@@ -62,7 +54,6 @@ pub fn find<S: Source, O: Output>(
     }
 }
 
-/// Where the carousel is, by all packets of the source.
 fn place<S: Source>(alloc: Global, carousel: u32, source: &mut S) -> Result<Find, InputFault>
     ensures { Hears all_packets (λ found packets. found ≡ found_in carousel packets) result
         (S.left source.old) (S.left source.new) (S.faults source.old) (S.faults source.new) }
@@ -73,7 +64,7 @@ fn place<S: Source>(alloc: Global, carousel: u32, source: &mut S) -> Result<Find
     Ok(seeking.finder.find())
 }
 
-/// Writes the line, and says whether it is a PID.
+/// Says whether it is a PID.
 fn write_found<O: Output>(alloc: Global, found: Find, out: &mut O) -> Result<bool, OutputFault>
     ensures found { IfOk result (λ all. all ≡ finding.is_at found) }
     ensures puts { Puts result (O.state out.old) (O.state out.new) (finding.found_line found) }

@@ -10,14 +10,8 @@ use reception_report::{SyncPlace, receive_packets, write_report};
 use shell_streams::{Output, OutputFault};
 use std::alloc::Global;
 
-/// Writes a report on all packets of the source: what a receiver of the PID `pid`, 0 to 8,190, holds after them, and what it passed over.
-///
-/// `ReadFault` comes where the source fails, and `InputTooLong` exactly where [`shell_streams::MOST_PACKETS`] packets were taken and at least a
-/// byte more is read; nothing is written then. `Done` and `NotPackets` come where the whole report was written: `NotPackets` exactly where the
-/// input isn't one of packets, and then it says where the sync byte stands. After `WriteFault`, where the sink fails, and after `NoMemory` a
-/// prefix of the report was written. No other status comes. These rules are this project's own.
-///
-/// Nothing may be pending in the output when it is called.
+/// Writes a report on all packets: what a receiver of the PID `pid`, 0 to 8,190, holds after them,
+/// and what it passed over. The whole input is read before anything is written.
 pub fn inspect<S: Source, O: Output>(alloc: Global, pid: u16, source: &mut S, out: &mut O) -> Status
     requires { IsFlushed (O.state out.old) }
     ensures inspects { Inspects pid result (over S.left S.faults source.old source.new)
@@ -31,7 +25,7 @@ pub fn inspect<S: Source, O: Output>(alloc: Global, pid: u16, source: &mut S, ou
     }
 }
 
-/// The status where a report was written of an input whose sync byte stands elsewhere, if it does.
+/// `NotPackets` if the sync byte is elsewhere.
 fn status_of(sync: Option<SyncPlace>, written: Result<(), OutputFault>) -> Status
     ensures { result ≡ report_status sync written }
 {

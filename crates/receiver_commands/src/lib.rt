@@ -1,5 +1,6 @@
-//! The commands for receivers: each reads an input of sections or packets from a source, writes to a sink what a receiver makes of it, and says
-//! how it ended. So does `why`, which reads nothing.
+//! The commands for receivers: each reads sections or packets from a source, writes what a receiver
+//! makes of them to a sink, and says how it ended. Nothing may be pending in the output when one is
+//! called. `why` reads nothing. The rules are this project's own.
 //!
 //! ```
 //! use oc_bytes::{MemSink, MemSource};

@@ -12,11 +12,9 @@ use path_tree::Path;
 use shell_streams::{Output, OutputFault};
 use std::alloc::Global;
 
-/// Writes the line of each path from the root on that the folders of a shot lead to, as [`listed_paths`] has them: a path, and
-/// then those below it in the order of its folder's bindings, each name at its first binding only. A name that is no
-/// name of a `Path` is passed over. After [`path_listing::MOST_LISTED`] lines it writes `more` where another would follow.
-///
-/// It says whether each answer is a file or a folder, and no `more` is written. This is the project's own rule.
+/// Writes a line of each path of [`listed_paths`], and `more` if more than
+/// [`path_listing::MOST_LISTED`] follow. Says whether each answer is a file or a folder, and no
+/// `more` is written.
 pub fn write_list<O: Output>(alloc: Global, shot: &Shot, out: &mut O) -> Result<bool, OutputFault>
     ensures listed { IfOk result (λ all. all ≡ all_listed (answers_of shot.now)) }
     ensures puts { Puts result (O.state out.old) (O.state out.new)
@@ -30,7 +28,7 @@ pub fn write_list<O: Output>(alloc: Global, shot: &Shot, out: &mut O) -> Result<
     Ok(both(listing.whole, found))
 }
 
-/// Puts the line of each of these paths, and says whether each answer is a file or a folder.
+/// Says whether each answer is a file or a folder.
 fn put_paths<O: Output>(
     alloc: Global,
     shot: &Shot,
@@ -50,7 +48,6 @@ fn put_paths<O: Output>(
     Ok(all)
 }
 
-/// Puts the line of a path, and says whether its answer is a file or a folder.
 fn put_path<O: Output>(
     alloc: Global,
     shot: &Shot,
@@ -66,7 +63,6 @@ fn put_path<O: Output>(
     Ok(is_found(&answer))
 }
 
-/// The line after those of the paths: `more` where not all were written.
 fn last_line(whole: bool) -> &'static [u8]
     ensures { result.now ≡ more_unless whole }
 {

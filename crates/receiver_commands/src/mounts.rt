@@ -23,7 +23,6 @@ use path_tree::{Name, Path};
 use shell_streams::{Output, OutputFault, PacketListener, hear_all_packets};
 use std::alloc::Global;
 
-/// The table as a listener.
 #[derive(Drop)]
 struct Mounting {
     mounts: Mounts,
@@ -64,18 +63,12 @@ impl Answerer for Mounts {
     }
 }
 
-/// Writes the answers to the paths in a tree of several carousels, out of the packets of the source. `entries` has the carousels' names, each
-/// with the PID of its packets. The first name of a path is a carousel's, and what follows it is a path of that carousel: the answer to it is
-/// the one of `open` with the carousel's PID. The root is a folder of the names, in the order of their bytes, and a path whose first name is
-/// none of them is `no-such`.
+/// Writes the answers to the paths in a tree of several carousels. `entries` has their names, each
+/// with its PID. A path's first name is a carousel's; `open` with that PID answers the rest. The
+/// root is a folder of the names, in the order of their bytes.
 ///
-/// `Words` comes exactly where [`Mounts::new`] refuses the entries, but for want of memory: nothing is read or written then. Else the whole
-/// input is read first, once; a last piece of fewer than 188 bytes is passed over. `ReadFault` comes where the source fails, and
-/// `InputTooLong` exactly where [`shell_streams::MOST_PACKETS`] packets were taken and at least a byte more is read; nothing is written then. `NotAll`
-/// comes exactly where some answer is neither a file nor a folder. After `WriteFault`, where the sink fails, and after `NoMemory` a
-/// prefix of the answers was written. No other status but `Done` comes. These rules are this project's own.
-///
-/// Nothing may be pending in the output when it is called.
+/// `Words` comes if [`Mounts::new`] refuses the entries, before anything is read. Else the whole
+/// input is read before anything is written.
 pub fn mounts<S: Source, O: Output>(
     alloc: Global,
     entries: Vec<(Name, u16)>,
@@ -95,7 +88,6 @@ pub fn mounts<S: Source, O: Output>(
     }
 }
 
-/// The table of these names and PIDs, which has had no packet.
 fn table_of(alloc: Global, entries: Vec<(Name, u16)>) -> Result<Mounts, TableFault>
     ensures refused { IfErr result (λ fault.
         IfSome (refusal_in fault) (λ f. refusal_of (mounts_in entries.items) ≡ Some f)) }
@@ -107,7 +99,6 @@ fn table_of(alloc: Global, entries: Vec<(Name, u16)>) -> Result<Mounts, TableFau
     Mounts::new(alloc, mounts)
 }
 
-/// The mounts of these names and PIDs, in the same order.
 fn listed(alloc: Global, entries: Vec<(Name, u16)>) -> Result<Vec<Mount>, NoMemory>
     ensures { MakesList result (mounts_in entries.items) }
 {
@@ -118,7 +109,6 @@ fn listed(alloc: Global, entries: Vec<(Name, u16)>) -> Result<Vec<Mount>, NoMemo
     Ok(mounts)
 }
 
-/// Writes the answers of a table that has had no packet yet, after all packets of the source.
 fn serve<S: Source, O: Output>(
     alloc: Global,
     table: Mounts,
@@ -141,7 +131,6 @@ fn serve<S: Source, O: Output>(
     }
 }
 
-/// Puts the line of the root, and the mounts' names, each on a line.
 fn put_root<O: Output>(alloc: Global, mounts: &Mounts, out: &mut O) -> Result<(), OutputFault>
     ensures { Puts result (O.state out.old) (O.state out.new) (root_text (mounts_of mounts.now)) }
 {
@@ -150,14 +139,12 @@ fn put_root<O: Output>(alloc: Global, mounts: &Mounts, out: &mut O) -> Result<()
     put_mount_names(alloc, mounts, out)
 }
 
-/// The line of a root of so many names.
 fn root_line(alloc: Global, count: usize) -> Result<String, NoMemory>
     ensures { Spells result (root_line count) }
 {
     format!(in alloc; "/ folder {count}\n")
 }
 
-/// Puts the name of each mount on a line.
 fn put_mount_names<O: Output>(
     alloc: Global,
     mounts: &Mounts,

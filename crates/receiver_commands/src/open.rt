@@ -13,15 +13,8 @@ use path_tree::Path;
 use shell_streams::{Carrier, Output, OutputFault};
 use std::alloc::Global;
 
-/// Writes the answers to the paths, in order: those of one receiver that heard all sections of the source, which stand in it as `carrier` says.
-/// A PID there is 0 to 8,190.
-///
-/// The whole input is read first. `ReadFault` comes where the source fails, and `InputTooLong` exactly where the most that the carrier takes
-/// was taken and at least a byte more is read; nothing is written then. `Done` comes where each answer is a file or a folder, and `NotAll`
-/// where some answer is neither; the whole text was written. After `WriteFault`, where the sink fails, and after `NoMemory` a prefix of it was
-/// written. No other status comes. These rules are this project's own.
-///
-/// Nothing may be pending in the output when it is called.
+/// Writes the answers to the paths, in order, of one receiver that heard the whole source.
+/// `carrier` says how sections come; a PID there is 0 to 8,190. The whole input is read first.
 pub fn open<S: Source, O: Output>(
     alloc: Global,
     carrier: Carrier,
@@ -41,13 +34,9 @@ pub fn open<S: Source, O: Output>(
     }
 }
 
-/// Writes a line of each path from the root on that the folders lead to which a receiver answers that heard all sections of the source: a path,
-/// and then those below it in the order of its folder's bindings, each name at its first binding only. After
-/// [`path_listing::MOST_LISTED`] lines it writes `more` where another would follow. `carrier` is that of [`open`].
-///
-/// The statuses are those of [`open`]; `NotAll` comes too where `more` is written.
-///
-/// Nothing may be pending in the output when it is called.
+/// Writes a line of each path of [`path_listing::listed_paths`] of one receiver that heard the
+/// whole source, and `more` if more than [`path_listing::MOST_LISTED`] follow. `carrier` is as in
+/// [`open`]; `NotAll` also comes after `more`.
 pub fn list<S: Source, O: Output>(
     alloc: Global,
     carrier: Carrier,
@@ -66,7 +55,7 @@ pub fn list<S: Source, O: Output>(
     }
 }
 
-/// The status where the answers were written, each of them one that was asked for or not.
+/// Each answer is found or not.
 pub(crate) fn status_of(written: Result<bool, OutputFault>) -> Status
     ensures { result ≡ answer_status written }
 {

@@ -25,12 +25,12 @@ use std::alloc::Global;
 use std::sync::Arc;
 use tuner_core::Tuner;
 
-/// A receiver that seeks the PID of its carousel first.
+/// It seeks the PID of its carousel first.
 #[derive(Drop)]
 struct Seeker {
     alloc: Global,
     finder: Finder,
-    /// The carousel's PID, once it is found.
+    /// None until the carousel is found.
     stream: Option<PacketDemux>,
     receiver: Receiver,
 }
@@ -52,7 +52,6 @@ impl PacketListener for Seeker {
 }
 
 impl Seeker {
-    /// Takes a packet before the carousel is found.
     fn seek(&mut self, packet: &[u8; PACKET_LENGTH]) -> Result<(), NoMemory>
         requires { self.old.stream ≡ None }
         ensures { OnOk result ((packets : List Bytes)
@@ -68,16 +67,9 @@ impl Seeker {
     }
 }
 
-/// Writes the answers to the paths out of the packets of the source, by the id of the carousel, any 32-bit number: what `open` with the
-/// PID that `find` gives writes of the packets after the first one at which `find` gives a PID. Where there is none each answer is
-/// `no-carousel`.
-///
-/// The whole input is read first, once; a last piece of fewer than 188 bytes is passed over. `ReadFault` comes where the source fails,
-/// and `InputTooLong` exactly where [`shell_streams::MOST_PACKETS`] packets were taken and at least a byte more is read; nothing is written then. `NotAll`
-/// comes exactly where some answer is neither a file nor a folder. After `WriteFault`, where the sink fails, and after `NoMemory` a
-/// prefix of the answers was written. No other status but `Done` comes. These rules are this project's own.
-///
-/// Nothing may be pending in the output when it is called.
+/// Writes the answers to the paths by the carousel's id, any 32-bit number: those of `open` after
+/// the packet at which `find` first gives a PID. Without a PID each is `no-carousel`. The whole
+/// input is read first, once.
 pub fn open_id<S: Source, O: Output>(
     alloc: Global,
     carousel: u32,
@@ -97,7 +89,6 @@ pub fn open_id<S: Source, O: Output>(
     }
 }
 
-/// What a receiver holds that sought the carousel in all packets of the source.
 fn receive_by_id<S: Source>(
     alloc: Global,
     carousel: u32,

@@ -29,7 +29,7 @@ impl Listener for Receiver {
     }
 }
 
-/// What a receiver holds that heard all sections of the source.
+/// What a receiver holds that heard the whole source.
 pub fn receive<S: Source>(
     alloc: Global,
     carrier: Carrier,

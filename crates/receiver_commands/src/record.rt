@@ -15,19 +15,11 @@ use section_stream::candidates_grow;
 use shell_streams::{Output, OutputFault, PacketReader};
 use std::alloc::Global;
 
-/// Writes the sections of the PID `pid`, 0 to 8,191, that the packets of the source carry: each that reads as a section of
-/// DSM-CC with its CRC (ISO/IEC 13818-6), unchanged, in the order in which they are cut out of the packets. A packet has 188
-/// bytes (ISO/IEC 13818-1, 2.4.3.2); a last piece of fewer is passed over.
+/// Writes the sections of DSM-CC (ISO/IEC 13818-6) with a good CRC on the PID `pid`, 0 to 8,191,
+/// unchanged and in the order in which they end. A packet has 188 bytes (ISO/IEC 13818-1, 2.4.3.2).
 ///
-/// What is due is written before more is read from the source, so whoever sends the packets finds each section written
-/// when it has come.
-///
-/// `Done` comes where the source was read to its end and all of them were written. `ReadFault` comes where the source
-/// fails, and `InputTooLong` exactly where [`shell_streams::MOST_PACKETS`] packets were taken and at least a byte more is read: all sections
-/// that were complete by then were written. After `WriteFault`, where the sink fails, and after `NoMemory` a prefix of them was written. No
-/// other status comes. These rules are this project's own.
-///
-/// Nothing may be pending in the output when it is called.
+/// What is due is written before more is read, so a sender sees each section as soon as it has
+/// come.
 pub fn record<S: Source, O: Output>(alloc: Global, pid: u16, source: &mut S, out: &mut O) -> Status
     requires { IsFlushed (O.state out.old) }
     ensures records { Records pid result (over S.left S.faults source.old source.new)
@@ -41,7 +33,6 @@ pub fn record<S: Source, O: Output>(alloc: Global, pid: u16, source: &mut S, out
     }
 }
 
-/// Writes them up to the end of the input.
 fn record_all<S: Source, O: Output>(
     alloc: Global,
     pid: u16,
@@ -64,7 +55,7 @@ fn record_all<S: Source, O: Output>(
     Ok(())
 }
 
-/// Writes what is pending, unless the next packet is held already.
+/// Nothing is written while the next packet is held already.
 fn write_before_reading<O: Output>(reader: &PacketReader, out: &mut O) -> Result<(), OutputFault>
     ensures puts { Puts result (O.state out.old) (O.state out.new) [] }
     ensures due { OnOk result (is_ready reader.now ≡ false → IsFlushed (O.state out.new)) }
@@ -76,7 +67,6 @@ fn write_before_reading<O: Output>(reader: &PacketReader, out: &mut O) -> Result
     }
 }
 
-/// Puts those of the candidates that are sections after what is pending.
 fn put_accepted<O: Output>(candidates: &[Vec<u8>], out: &mut O) -> Result<(), OutputFault>
     ensures { Puts result (O.state out.old) (O.state out.new)
         (sections.accepted_bytes (map view_bytes candidates.now)) }
@@ -87,7 +77,6 @@ fn put_accepted<O: Output>(candidates: &[Vec<u8>], out: &mut O) -> Result<(), Ou
     Ok(())
 }
 
-/// Puts a candidate after what is pending, where it is a section.
 fn put_one<O: Output>(candidate: &[u8], out: &mut O) -> Result<(), OutputFault>
     ensures { Puts result (O.state out.old) (O.state out.new)
         (inner.accepted_one candidate.now) }
@@ -99,7 +88,6 @@ fn put_one<O: Output>(candidate: &[u8], out: &mut O) -> Result<(), OutputFault>
     }
 }
 
-/// Whether a candidate is a section.
 fn is_accepted(candidate: &[u8]) -> bool
     ensures { result ≡ sections.is_accepted candidate.now }
 {

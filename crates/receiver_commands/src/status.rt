@@ -17,39 +17,37 @@ use std::alloc::{AllocError, Global};
 /// How a command ended.
 #[derive(Drop)]
 pub enum Status {
-    /// Nothing is left to do: all that the command writes was written, and its input was read to the end. `why`: some word doesn't fit.
+    /// All was read and written. `why`: some word doesn't fit.
     Done,
-    /// `open`, `open-id`, `list`, `mounts`, `extract`: some answer is neither a file nor a folder, or `list` met its limit of
-    /// [`MOST_LISTED`](path_listing::MOST_LISTED) lines, or `extract` the same limit or a name that it passes over. `find`: no PID is found. `plan`: the
-    /// folder can't be published. `why`: the words fit.
+    /// Some answer isn't found, or a limit or a name cut `list` or `extract` short. `find`: no PID.
+    /// `plan`: the folder can't be published. `why`: the words fit.
     NotAll,
-    /// `inspect`: the input isn't one of packets, and this is where the sync byte stands in it.
+    /// `inspect`: where the sync byte is instead.
     NotPackets(SyncPlace),
-    /// The words don't name a command with its values, or the table of `mounts` is refused.
+    /// The words name no command with its values, or the table of `mounts` is refused.
     Words,
-    /// `rehearse`: the number of the script's first line that doesn't fit, counted from 1 and at most the greatest `u32`, and
-    /// that line's first cause.
+    /// `rehearse`: the first line that doesn't fit, from 1, at most the greatest `u32`, and its
+    /// first cause.
     BadLine(u32, LineCause),
     /// The source failed.
     ReadFault,
     /// The sink failed.
     WriteFault,
-    /// The folders failed, or the folder that `publish`, `publish-on`, `publish-psi`, `air` or `plan` names is none. `extract`: the store failed, or
-    /// something is in the way of what it writes.
+    /// The folders or the store failed, the named folder is none, or something is in `extract`'s
+    /// way.
     FolderFault,
-    /// `publish`, `publish-on`, `publish-psi`, `air`: the folder makes no tree that can be sent. `air`: or the carousel has had all of its
-    /// generations.
+    /// The folder makes no tree that can be sent. `air`: or the season is full.
     TreeRefused(TreeFault),
     /// The input goes on after the most that the command takes.
     InputTooLong,
-    /// There was no memory.
+    /// Memory ran out.
     NoMemory,
-    /// The module isn't whole; this is the least number of a block that is missing, 0 to 4,142.
+    /// The least number of a missing block, 0 to 4,142.
     Incomplete(u32),
 }
 
 impl Status {
-    /// The exit status of the program, 0 to 10: this project's own numbers.
+    /// The exit status of the program, 0 to 10.
     pub fn code(&self) -> u8
         ensures { result ≡ code_of self.now }
     {
@@ -101,7 +99,6 @@ impl Status {
     }
 }
 
-/// Why a text is no script.
 fn script_text(alloc: Global, number: u32, cause: LineCause) -> Result<String, NoMemory>
     ensures { Spells result (text_of_script number cause) }
 {
@@ -111,7 +108,6 @@ fn script_text(alloc: Global, number: u32, cause: LineCause) -> Result<String, N
     Ok(text)
 }
 
-/// Why a tree is refused.
 fn tree_text(alloc: Global, fault: &TreeFault) -> Result<String, NoMemory>
     ensures { Spells result (text_of_tree fault.now) }
 {

@@ -11,12 +11,6 @@ use shell_words::{Complaint, complaint_text};
 use std::alloc::Global;
 
 /// Writes one line on what is wrong with the words of a command line, or that they fit.
-///
-/// `Done` comes exactly where something is wrong and the whole line was written, and `NotAll` exactly where they fit and it was. After
-/// `WriteFault`, where the sink fails, and after `NoMemory` a prefix of the line was written. No other status comes. These rules are this
-/// project's own.
-///
-/// Nothing may be pending in the output when it is called.
 pub fn why<O: Output>(alloc: Global, complaint: Complaint, out: &mut O) -> Status
     requires { IsFlushed (O.state out.old) }
     ensures says { SaysWhy complaint result (out_over O.state out.old out.new) }
@@ -29,7 +23,6 @@ pub fn why<O: Output>(alloc: Global, complaint: Complaint, out: &mut O) -> Statu
     }
 }
 
-/// The status where the line was written.
 fn status_of(complaint: Complaint) -> Status
     ensures { result ≡ why_status complaint }
 {
@@ -39,7 +32,6 @@ fn status_of(complaint: Complaint) -> Status
     }
 }
 
-/// Writes the line.
 fn write_complaint<O: Output>(
     alloc: Global,
     complaint: Complaint,

@@ -10,11 +10,9 @@ use oc_bytes::NoMemory;
 use std::alloc::Global;
 use std::thread::{Threads, join};
 
-/// The section of each item of a batch, in order. Each item has to be one of the generation's, and there are at most 1,024
-/// of them. Each section is framed: a stream of sections can be cut by it. The only refusal is to be out of memory.
-///
-/// Two workers make the sections at once. Worker 0 has the lower half of the places, rounded down, and worker 1 the rest;
-/// both pass the gate, at step 0, before they begin, with an empty half too.
+/// The sections of at most 1,024 items of a generation, in order, for streams that are cut by
+/// section. Worker 0 makes the lower half, rounded down, and worker 1 the rest. Each passes the
+/// gate at step 0, even if its half is empty.
 pub fn encode_batch<R: Threads + Sync, G: Gate>(
     rt: &R,
     alloc: Global,
@@ -57,7 +55,6 @@ pub fn encode_batch<R: Threads + Sync, G: Gate>(
     Ok(sections)
 }
 
-/// The section of each item, in order, with room for so many sections.
 fn encode(
     alloc: Global,
     generation: &Generation,

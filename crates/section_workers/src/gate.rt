@@ -1,19 +1,19 @@
-/// Who passes a gate. The numbers of editors and readers are those of whoever runs them; the workers are 0 and 1.
+/// Who passes a gate. Workers are 0 and 1.
 #[derive(Clone, Copy, Debug, PartialEq, Eq)]
 pub enum Actor {
-    /// One who commits edits.
+    /// Commits edits.
     Editor(u32),
-    /// The one who draws items and sends them.
+    /// Draws items and sends them.
     Feeder,
-    /// One who opens paths.
+    /// Opens paths.
     Reader(u32),
-    /// One who makes sections of items.
+    /// Makes sections of items.
     Worker(u32),
 }
 
 /// Is told of each actor before each of its steps.
 pub trait Gate: Sync {
-    /// The actor is about to take its step of this number, counted from 0.
+    /// The actor is about to take this step, from 0.
     fn pass(&self, actor: Actor, step: u32);
 }
 

@@ -1,7 +1,5 @@
-//! The sections of a batch of items, made by two workers at once; and the gate that actors pass.
-//!
-//! A gate is handed in by whoever runs several actors at once, and is told where each of them is. It has no answer, so it
-//! changes nothing but time: a test uses one to see that actors overlap.
+//! The sections of a batch, made by two workers at once, and the gate that actors pass. A gate has
+//! no answer, so it changes only timing: a test sees by it that actors overlap.
 //!
 //! ```
 //! use cycle_planner::Item;

@@ -16,10 +16,9 @@ use std::sync::Wait;
 use std::thread;
 use std::thread::{Threads, join_mut};
 
-/// Runs all actors at once: one thread for each editor, one for the feeder and one for each reader. Each does what lies before it in
-/// its seat, in order, and passes the gate before each line.
-///
-/// Nothing may be refused here: a seat that isn't whole afterwards was cut short by out of memory.
+/// Runs all actors at once, each on its own thread. Each does in order what its seat holds, and
+/// passes the gate before each line. A seat that isn't whole afterwards was cut short because
+/// memory ran out.
 pub fn run_actors<R: Threads + Wait + Sync, G: Gate>(
     rt: &R,
     alloc: Global,
@@ -30,11 +29,13 @@ pub fn run_actors<R: Threads + Wait + Sync, G: Gate>(
     feeder: &mut FeederSeat,
     readers: &mut [ReaderSeat],
 )
+    // What each actor begins with:
     requires editors { All (IsEditorSeat station.now) editors.old }
     requires pass { IsStationPass station.now feeder.old.pass }
     requires lines { All IsDrawLine feeder.old.draws.items }
     requires room { HasRoomFor shower.old (length feeder.old.draws.items) }
     requires readers { All IsReaderSeat readers.old }
+    // What each actor did:
     ensures editors { EachDid (DidEdit station.now) editors.old editors.new }
     ensures feeder { DidFeed station.now feeder.old feeder.new (shown_by shower.old)
         (shown_by shower.new) }
@@ -60,8 +61,8 @@ pub fn run_actors<R: Threads + Wait + Sync, G: Gate>(
     );
 }
 
-/// The editors at once, each in a thread of its own, and something else beside them. By itself, so that little else is known where it
-/// is searched for that threads may share a station.
+/// A function of its own, because the search for a proof that threads may share a station then has
+/// few facts to try.
 fn beside_editors<R: Threads + Wait + Sync, G: Gate, F: FnMut()>(
     rt: &R,
     alloc: Global,
@@ -85,7 +86,6 @@ fn beside_editors<R: Threads + Wait + Sync, G: Gate, F: FnMut()>(
     );
 }
 
-/// The feeder and the readers at once.
 fn feed_and_read<R: Threads + Wait + Sync, G: Gate>(
     rt: &R,
     alloc: Global,
@@ -95,10 +95,12 @@ fn feed_and_read<R: Threads + Wait + Sync, G: Gate>(
     feeder: &mut FeederSeat,
     readers: &mut [ReaderSeat],
 )
+    // What each actor begins with:
     requires pass { IsStationPass station.now feeder.old.pass }
     requires lines { All IsDrawLine feeder.old.draws.items }
     requires room { HasRoomFor shower.old (length feeder.old.draws.items) }
     requires readers { All IsReaderSeat readers.old }
+    // What each actor did:
     ensures feeder { DidFeed station.now feeder.old feeder.new (shown_by shower.old)
         (shown_by shower.new) }
     ensures board { IsSameBoard shower.old shower.new }
@@ -121,7 +123,6 @@ fn feed_and_read<R: Threads + Wait + Sync, G: Gate>(
     );
 }
 
-/// One thread for each editor.
 fn edit_all<R: Threads + Wait + Sync, G: Gate>(
     rt: &R,
     alloc: Global,
@@ -144,7 +145,6 @@ fn edit_all<R: Threads + Wait + Sync, G: Gate>(
     );
 }
 
-/// One thread for each reader.
 fn read_all<R: Threads + Sync, G: Gate>(rt: &R, alloc: Global, gate: &G, readers: &mut [ReaderSeat])
     requires { All IsReaderSeat readers.old }
     ensures { EachDid DidRead readers.old readers.new }

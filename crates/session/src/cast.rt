@@ -19,7 +19,6 @@ use std::alloc::{AllocError, Global};
 use std::sync::Wait;
 use std::thread::Threads;
 
-/// All seats of a session.
 #[derive(Drop)]
 pub(crate) struct Cast {
     pub(crate) editors: Vec<EditorSeat>,
@@ -33,7 +32,7 @@ impl Cast {
     ghost use Rattle.session.specs.Inner.Ending.{CastDone, IsWhole};
     ghost use Rattle.session.specs.Inner.Plans.{AreInRange, before_steps};
 
-    /// Does what happens before the start, in written order. Out of memory is the only refusal.
+    /// In written order.
     pub(crate) fn act_all<R: Threads + Wait + Sync, G: Gate>(
         &mut self,
         rt: &R,
@@ -58,7 +57,7 @@ impl Cast {
         Ok(())
     }
 
-    /// Does what happens before the start. After a draw each reader is told of all that was shown. Out of memory is the only refusal.
+    /// After a draw each reader is told of all that was shown.
     fn act<R: Threads + Wait + Sync, G: Gate>(
         &mut self,
         rt: &R,
@@ -92,7 +91,7 @@ impl Cast {
         }
     }
 
-    /// Runs what lies before all actors, each on a thread of its own. Out of memory is the only refusal: it cut an actor short.
+    /// Out of memory says that an actor was cut short.
     pub(crate) fn run<R: Threads + Wait + Sync, G: Gate>(
         &mut self,
         rt: &R,
@@ -120,7 +119,6 @@ impl Cast {
         Ok(())
     }
 
-    /// Whether memory cut no actor short.
     fn is_whole(&self) -> bool
         ensures { result ≡ true ↔ IsWhole self.now }
     {
@@ -128,14 +126,12 @@ impl Cast {
     }
 }
 
-/// Whether memory cut no editor short.
 fn are_editors_whole(seats: &[EditorSeat]) -> bool
     ensures { result ≡ list_all (λ seat. seat.whole) seats.now }
 {
     seats.iter().all(|seat| seat.whole)
 }
 
-/// Whether memory cut no reader short.
 fn are_readers_whole(seats: &[ReaderSeat]) -> bool
     ensures { result ≡ list_all (λ seat. seat.whole) seats.now }
 {

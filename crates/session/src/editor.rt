@@ -24,7 +24,7 @@ use std::sync::Wait;
 /// A commit that an editor has still to make.
 #[derive(Drop)]
 pub struct CommitLine {
-    /// For how many lines below `start` it stands: that of the commit, and those of its edits.
+    /// How many lines below `start` it takes: its own, and those of its edits.
     pub lines: u32,
     pub edits: Vec<Edit>,
 }
@@ -41,8 +41,7 @@ pub struct EditorSeat {
     pub whole: bool,
 }
 
-/// Makes one commit. A commit that the station refuses is made too. Out of memory is the only refusal, and comes only where the commit
-/// would be entered.
+/// A commit that the station refuses is made too.
 pub(crate) fn commit<R: Wait>(
     rt: &R,
     station: &Station,
@@ -63,7 +62,7 @@ pub(crate) fn commit<R: Wait>(
     }
 }
 
-/// Makes the commits of a seat, in order. The editor passes the gate before each line, with steps counted from 0.
+/// Steps are counted from 0, one for each line.
 pub(crate) fn edit<R: Wait, G: Gate>(
     rt: &R,
     alloc: Global,
@@ -87,7 +86,7 @@ pub(crate) fn edit<R: Wait, G: Gate>(
     seat.whole = true;
 }
 
-/// Passes the gate for so many lines, with steps from `first` on, and answers the step after them. Steps end at the greatest `u32`.
+/// Answers the step after the lines, at most the greatest `u32`.
 fn pass_lines<G: Gate>(gate: &G, actor: Actor, first: u32, lines: u32) -> u32 {
     let end = first.saturating_add(lines);
     for step in first..end {
@@ -96,7 +95,7 @@ fn pass_lines<G: Gate>(gate: &G, actor: Actor, first: u32, lines: u32) -> u32 {
     end
 }
 
-/// A seat for each editor, with the pass of its place, its commits, and as many lines of edits as are counted.
+/// Passes come in the editors' order.
 pub(crate) fn editor_seats(
     alloc: Global,
     station: &Station,
@@ -132,7 +131,6 @@ pub(crate) fn editor_seats(
     Ok(seats)
 }
 
-/// The editor of this number commits before the start. Out of memory is the only refusal.
 pub(crate) fn commit_now<R: Wait>(
     rt: &R,
     station: &Station,

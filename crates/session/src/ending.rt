@@ -35,7 +35,7 @@ use std::alloc::{AllocError, Global};
 use std::sync::Wait;
 use std::thread::Threads;
 
-/// The catalogue once all passes are back, and the feeder's downlink, with the fates of all draws.
+/// What is left when all passes are back.
 #[derive(Drop)]
 pub(crate) struct Closed {
     pub(crate) catalogue: Catalogue,
@@ -43,7 +43,7 @@ pub(crate) struct Closed {
     pub(crate) fates: Vec<Vec<Fate>>,
 }
 
-/// All passes of a session: the editors' in order, and then the feeder's.
+/// The feeder's pass comes last.
 fn passes_of(alloc: Global, editors: Vec<EditorSeat>, feeder: Pass) -> Result<Vec<Pass>, NoMemory>
     ensures { MakesList result (map (λ seat. seat.pass) editors.items ++ feeder ∷ []) }
 {
@@ -52,7 +52,6 @@ fn passes_of(alloc: Global, editors: Vec<EditorSeat>, feeder: Pass) -> Result<Ve
     Ok(passes)
 }
 
-/// Takes all passes back to their station. Out of memory is the only refusal.
 fn end_of_threads(
     alloc: Global,
     station: Station,
@@ -76,8 +75,8 @@ fn end_of_threads(
 }
 
 impl Closed {
-    /// Makes one draw of `settle`, sends it, and shows the next shot. Out of memory is the only refusal; it also comes where
-    /// [`generation_catalogue::MOST_DRAWS`] draws are entered.
+    /// One draw of `settle`. Out of memory also comes if [`generation_catalogue::MOST_DRAWS`] draws
+    /// are entered.
     fn draw<R: Threads + Wait + Sync, G: Gate>(
         &mut self,
         rt: &R,
@@ -105,7 +104,6 @@ impl Closed {
         Ok(())
     }
 
-    /// Makes the two draws of `settle`, if it is asked for. Out of memory is the only refusal.
     fn settle<R: Threads + Wait + Sync, G: Gate>(
         &mut self,
         rt: &R,
@@ -133,7 +131,7 @@ impl Closed {
     }
 }
 
-/// A reader takes the last shot, and opens its paths for the end. Its pass is what is left of it. Out of memory is the only refusal.
+/// Opens the finales on the last shot.
 fn read_last(
     alloc: Global,
     seat: ReaderSeat,
@@ -168,7 +166,6 @@ fn read_last(
     Ok(last.pass)
 }
 
-/// Each reader takes the last shot, and opens its paths for the end. Their passes are left, in order. Out of memory is the only refusal.
 fn read_all(
     alloc: Global,
     readers: Vec<ReaderSeat>,
@@ -192,10 +189,8 @@ fn read_all(
     Ok(passes)
 }
 
-/// What is left of a session once its threads are done, and its history.
-///
-/// All passes go back to the station, `settle` draws, each reader takes the last shot and opens what is asked of it at the end, and all
-/// is merged. Out of memory is the only refusal. The order is this project's own rule.
+/// All passes go back, `settle` draws, each reader opens its finales on the last shot, and all is
+/// merged.
 pub(crate) fn end<R: Threads + Wait + Sync, G: Gate>(
     rt: &R,
     alloc: Global,

@@ -1,9 +1,9 @@
-//! Sessions: the lines of a script, each on its actor's thread, and the one history that comes of them.
+//! Sessions: the lines of a script, each on its actor's thread, merged into one history.
 //!
-//! What each actor has to do is split off before anybody runs. Editors who commit, a feeder who draws and sends, and readers who open paths
-//! share a station and a board; no two of them wait for each other but for a hold of the station's lock. An actor's state lies in a seat,
-//! which is lent to its thread. A seat is whole while memory has cut nothing short. What an actor did is said of the station's history and of
-//! the board's shots by what its own pass has seen, so nothing is said of the order between two actors.
+//! Editors commit, a feeder draws and sends, and readers open paths. They wait for each other only
+//! while one holds the station. A seat has an actor's state and is lent to its thread; it is whole
+//! unless memory ran out. Nothing is said of the order between two actors. The rules are this
+//! project's own.
 //!
 //! ```
 //! ghost use Rattle.std.specs.Prelude.{◌≡◌};
@@ -24,7 +24,7 @@
 //! assert!(rt; matches!(told[3], (Event::Open { reader: 2, .. }, Reply::Opened { answer: Answer::File(_), .. })));
 //! ```
 //!
-//! A feeder makes one draw, with no editor and no reader beside it, and shows one shot more:
+//! A feeder makes one draw, without editors and readers, and shows one more shot:
 //!
 //! ```
 //! ghost use Rattle.std.specs.Prelude.{◌≡◌};

@@ -19,7 +19,6 @@ use session_script::{Finale, Parts, TaskLine};
 use std::alloc::{AllocError, Global};
 use std::collections::BTreeMap;
 
-/// A list for each actor's number: the commits of each editor, or the paths of each reader.
 #[derive(Drop)]
 pub(crate) struct ByActor<T: Drop> {
     alloc: Global,
@@ -27,7 +26,7 @@ pub(crate) struct ByActor<T: Drop> {
 }
 
 impl<T: Drop> ByActor<T> {
-    /// Nothing of anybody. It takes no memory.
+    /// Takes no memory.
     fn new(alloc: Global) -> ByActor<T>
         ensures { (n : ℕ) → lists_of result n ≡ [] }
     {
@@ -37,7 +36,7 @@ impl<T: Drop> ByActor<T> {
         }
     }
 
-    /// One more of the actor, after its others. After out of memory, which is the only refusal, it is of no use any more.
+    /// Comes after the actor's others. After out of memory the lists are of no use.
     fn push(&mut self, actor: u32, one: T) -> Result<(), NoMemory>
         ensures { OnOk result ((n : ℕ)
             → lists_of self.new n
@@ -51,7 +50,6 @@ impl<T: Drop> ByActor<T> {
         Ok(())
     }
 
-    /// Takes the actor's list out.
     pub(crate) fn take(&mut self, actor: u32) -> Vec<T>
         ensures list { result.items ≡ lists_of self.old actor }
         ensures left { (n : ℕ)
@@ -61,38 +59,31 @@ impl<T: Drop> ByActor<T> {
     }
 }
 
-/// A script's session before anybody runs.
 #[derive(Drop)]
 pub(crate) struct Plan {
-    /// The editors, each 1 to [`session_script::MOST_ACTORS`], in the order of the first lines that name them.
+    /// Each 1 to [`session_script::MOST_ACTORS`], in the order of the first lines that name them.
     pub(crate) editors: Vec<u32>,
-    /// The readers, each 1 to [`session_script::MOST_ACTORS`], in the order of the first lines that name them.
+    /// As the editors.
     pub(crate) readers: Vec<u32>,
-    /// What happens above `start`, in written order.
+    /// Above `start`, in written order.
     pub(crate) before: Vec<Happening>,
-    /// What each actor has to do below it.
     pub(crate) work: Work,
-    /// Whether the session settles after all actors.
     pub(crate) settles: bool,
-    /// What each reader opens at the end, in written order.
+    /// In written order.
     pub(crate) finales: ByActor<Path>,
 }
 
-/// What the actors have to do below `start`, each in written order.
+/// Below `start`, in written order.
 #[derive(Drop)]
 pub(crate) struct Work {
-    /// The commits of each editor.
     pub(crate) commits: ByActor<CommitLine>,
-    /// How many lines of edits each editor has since its last commit, or since `start`.
+    /// Each editor's lines of edits since its last commit, or since `start`.
     pub(crate) edit_lines: BTreeMap<u32, u32>,
     pub(crate) draws: Vec<DrawLine>,
-    /// The paths that each reader opens.
     pub(crate) paths: ByActor<Path>,
 }
 
-/// Splits a script into what its actors have to do. Edits that no commit of their editor follows are in none.
-///
-/// The script's numbers are within their ranges. Out of memory is the only refusal.
+/// Splits a script by actors. Edits that no commit of their editor follows are left out.
 pub(crate) fn plan_of(alloc: Global, parts: Parts) -> Result<Plan, NoMemory>
     requires { IsInRanges (script_of_parts parts) }
     ensures { IfOk result (λ plan. IsPlanOf parts plan) }
@@ -112,7 +103,7 @@ pub(crate) fn plan_of(alloc: Global, parts: Parts) -> Result<Plan, NoMemory>
 }
 
 impl Plan {
-    /// How many draws there are in all. Out of memory comes only where they are no `usize`, so never.
+    /// Out of memory would mean that the sum is no `usize`.
     pub(crate) fn count_draws(&self) -> Result<usize, NoMemory>
         ensures count { IfOk result (λ n.
             n ≡ length (draws_in (map view_happening self.now.before.items))
@@ -128,7 +119,6 @@ impl Plan {
     }
 }
 
-/// The sum of three counts. Out of memory comes only where it is no `usize`.
 pub(crate) fn sum_of(first: usize, second: usize, third: usize) -> Result<usize, NoMemory>
     ensures sum { IfOk result (λ n. n ≡ first + second + third) }
     ensures memory { OnErr result (2 ^ 64 ≤ first + second + third) }
@@ -137,21 +127,18 @@ pub(crate) fn sum_of(first: usize, second: usize, third: usize) -> Result<usize,
     both.checked_add(third).ok_or(AllocError)
 }
 
-/// How many of these are draws.
 fn count_draws(before: &[Happening]) -> usize
     ensures { result ≡ length (draws_in (map view_happening before.now)) }
 {
     before.iter().filter(|what| is_draw(what)).count()
 }
 
-/// Whether it is a draw.
 fn is_draw(what: &Happening) -> bool
     ensures { result ≡ is_draw_step (view_happening what.now) }
 {
     matches!(what, Happening::Draw(..))
 }
 
-/// What happens at these tasks, which come next.
 fn happenings(
     alloc: Global,
     interpreter: &mut Interpreter,
@@ -177,7 +164,6 @@ fn happenings(
     Ok(made)
 }
 
-/// What these tasks, which come next, ask of the actors.
 fn work_of(
     alloc: Global,
     interpreter: &mut Interpreter,
@@ -204,7 +190,6 @@ fn work_of(
 }
 
 impl Work {
-    /// Gives what happens to its actor.
     fn give(&mut self, what: Happening) -> Result<(), NoMemory>
         requires { InRange (view_happening what) }
         ensures { OnOk result ((done : List Step)
@@ -228,7 +213,7 @@ impl Work {
         }
     }
 
-    /// Counts a line of an edit, at most the greatest `u32`.
+    /// At most the greatest `u32`.
     fn count_line(&mut self, editor: Option<u32>) -> Result<(), NoMemory>
         ensures { (done : List Step) → HasSplit self.old done → HasSplit self.new done }
     {
@@ -240,7 +225,6 @@ impl Work {
     }
 }
 
-/// The paths that each reader opens at the end.
 fn by_reader(alloc: Global, finales: Vec<Finale>) -> Result<ByActor<Path>, NoMemory>
     ensures { IfOk result (λ lists.
         (n : ℕ) → lists_of lists n ≡ opens_by n (map finale_step finales.items)) }

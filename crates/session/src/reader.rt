@@ -29,18 +29,20 @@ use std::mem;
 pub struct ReaderSeat {
     pub pass: ReaderPass,
     pub paths: Vec<Path>,
-    /// The paths that it opens after all actors.
+    /// Opened after all actors are done.
     pub finales: Vec<Path>,
     pub whole: bool,
 }
 
-/// Opens one path. Out of memory is the only refusal.
 pub(crate) fn open(pass: &mut ReaderPass, path: Path) -> Result<(), NoMemory>
+    // Which reader, and what it was told:
     requires { length pass.old.opens < pass.old.room }
     ensures same { IsSameReader pass.old pass.new }
     ensures told { pass.new.told ≡ pass.old.told }
+    // What it knows:
     ensures known { IsPrefix pass.old.known pass.new.known }
     ensures most { length pass.new.known ≤ pass.new.most + 1 }
+    // What was opened:
     ensures count { OnOk result (length pass.new.opens ≡ length pass.old.opens + 1) }
     ensures opened { OnOk result ((least : ℕ) (asked : List Asked)
         → (least + 1 ≤ length pass.old.told) ⊎ (least + 1 ≤ length pass.old.known)
@@ -53,7 +55,7 @@ pub(crate) fn open(pass: &mut ReaderPass, path: Path) -> Result<(), NoMemory>
     }
 }
 
-/// Opens the paths of a seat, in order. The reader passes the gate before each, with steps counted from 0.
+/// Steps are counted from 0, one for each path.
 pub(crate) fn read<G: Gate>(alloc: Global, gate: &G, seat: &mut ReaderSeat)
     requires { IsReaderSeat seat.old }
     ensures { DidRead seat.old seat.new }
@@ -72,8 +74,7 @@ pub(crate) fn read<G: Gate>(alloc: Global, gate: &G, seat: &mut ReaderSeat)
     seat.whole = true;
 }
 
-/// A seat for each reader, with a viewer of its own, its paths, its finales, and room for all its opens: those of `before`, of its paths
-/// and of its finales. Out of memory is the only refusal.
+/// Each seat has room for all opens of its reader: those of `before`, its paths and its finales.
 pub(crate) fn reader_seats(
     alloc: Global,
     numbers: &[u32],
@@ -116,7 +117,6 @@ pub(crate) fn reader_seats(
     Ok(seats)
 }
 
-/// How many of these are opens of this reader.
 fn count_opens(before: &[Happening], reader: u32) -> usize
     ensures { result ≡ count_by (λ what. opens_of reader (view_happening what)) before.now }
 {
@@ -126,7 +126,6 @@ fn count_opens(before: &[Happening], reader: u32) -> usize
         .count()
 }
 
-/// Whether it is an open of this reader.
 fn is_open_by(what: &Happening, reader: u32) -> bool
     ensures { result ≡ opens_of reader (view_happening what.now) }
 {
@@ -136,7 +135,6 @@ fn is_open_by(what: &Happening, reader: u32) -> bool
     }
 }
 
-/// The reader of this number opens a path before the start. Out of memory is the only refusal.
 pub(crate) fn open_now(seats: &mut Vec<ReaderSeat>, reader: u32, path: Path) -> Result<(), NoMemory>
     requires { (setting : Setting)
         × (done : List Step)
@@ -156,7 +154,6 @@ pub(crate) fn open_now(seats: &mut Vec<ReaderSeat>, reader: u32, path: Path) -> 
     Ok(())
 }
 
-/// Tells each reader of all that was shown.
 pub(crate) fn tell(seats: &mut Vec<ReaderSeat>, shower: &mut Shower<Shot>)
     requires { All (λ seat. seat.pass.board ≡ shower_board shower.old) seats.old.items }
     ensures board { ShowsNothing shower.old shower.new }

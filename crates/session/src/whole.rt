@@ -27,16 +27,16 @@ use std::alloc::Global;
 use std::sync::Wait;
 use std::thread::Threads;
 
-/// Runs a script's session of carousel 1, each of whose modules is sent as often a cycle as it weighs, and gives its history.
+/// Runs a script's session of carousel 1, and gives its history. `weigh` says how often a cycle has
+/// each module. Memory running out is the only error. The call waits while actors do; nothing is
+/// promised about whether it returns.
 ///
-/// - The lines above `start` are run in written order by the calling thread. After each draw each reader is told of all shots.
-/// - One thread for each editor, one for the feeder and one for each reader run the other lines, each in the written order of that
-///   actor. Each passes the gate before each of its lines, with steps counted from 0.
-/// - After each draw a shot is shown on the board.
-/// - After all threads `settle` draws twice. Then each reader takes the last shot, and the `finale` lines are answered.
-///
-/// Out of memory is the only refusal. The call waits where actors do; whether it returns isn't promised. These steps are this
-/// project's own.
+/// - The calling thread runs the lines above `start`. After each draw it tells each reader of all
+///   shots.
+/// - Each actor's thread runs its other lines in order, and passes the gate before each; steps
+///   count from 0.
+/// - After all threads `settle` draws twice. Then each reader takes the last shot and opens its
+///   finales.
 pub fn play<R: Threads + Wait + Sync, G: Gate>(
     rt: &R,
     alloc: Global,
@@ -64,7 +64,6 @@ pub fn play<R: Threads + Wait + Sync, G: Gate>(
     told
 }
 
-/// What a session begins with.
 #[derive(Drop)]
 pub(crate) struct Start {
     pub(crate) plan: Plan,
@@ -72,7 +71,6 @@ pub(crate) struct Start {
     pub(crate) viewers: Vec<Viewer<Shot>>,
 }
 
-/// Runs a session on its board. Out of memory is the only refusal.
 fn perform<R: Threads + Wait + Sync, G: Gate>(
     rt: &R,
     alloc: Global,

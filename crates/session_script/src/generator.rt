@@ -26,7 +26,7 @@ const FILES: u32 = FILES_IN_COMMIT * COMMITS;
 /// How often a reader opens a path before the end.
 const OPENS: u32 = 64;
 
-/// How many draws the feeder makes, and for how many items each of them asks.
+/// How many draws the feeder makes, of how many items each.
 const DRAWS: u32 = 64;
 
 const ITEMS: u32 = 256;
@@ -37,15 +37,14 @@ const KEPT: usize = 49;
 /// The reader who opens all files at the end.
 const LAST_READER: u32 = 1;
 
-/// The script of a session of this size, 1 to 16: editors and readers 1 to `size`, and one feeder. It has no line above `start`.
+/// The script of a session of this size, 1 to 16: editors and readers 1 to `size`, with all lines
+/// below `start`.
 ///
-/// - Each editor E has 32 files, `/eE/f0` to `/eE/f31`. File K has 500 * (1 + (E + K) mod 40) bytes, filled from (E + K) mod 256. The
-///   editor makes four commits of eight files each, in order.
-/// - The feeder makes 64 draws of 256 sections, in which 49 packets arrive and then one is lost, again and again.
-/// - Each reader R makes 64 opens. Open J is of file J mod 32 of editor 1 + (R + J) mod `size`.
-/// - At the end the script settles, and reader 1 opens each file, by editors and then by files.
-///
-/// Lines are numbered from 1 on. Out of memory is the only refusal. All of this is this project's own.
+/// - Editor E makes 4 commits of 8 files, `/eE/f0` to `/eE/f31`. File K has 500 * (1 + (E + K) mod
+///   40) bytes, filled from (E + K) mod 256.
+/// - The feeder makes 64 draws of 256 sections. Of each 50 packets the last is lost.
+/// - Reader R makes 64 opens. Open J is of file J mod 32 of editor 1 + (R + J) mod `size`.
+/// - The script settles, and reader 1 opens each file, by editors.
 pub fn generated(alloc: Global, size: u32) -> Result<Parts, NoMemory>
     requires least { 1 ≤ size }
     requires most { size ≤ 16 }
@@ -65,7 +64,6 @@ pub fn generated(alloc: Global, size: u32) -> Result<Parts, NoMemory>
     })
 }
 
-/// The numbers 1 to `size`.
 fn numbers(alloc: Global, size: u32) -> Result<Vec<u32>, NoMemory>
     requires { size ≤ 16 }
     ensures { MakesList result (specs.numbers size) }
@@ -73,7 +71,6 @@ fn numbers(alloc: Global, size: u32) -> Result<Vec<u32>, NoMemory>
     (1..size + 1).collect(alloc)
 }
 
-/// All that the actors do before the end.
 fn tasks_during(alloc: Global, size: u32) -> Result<Vec<Task>, NoMemory>
     requires least { 1 ≤ size }
     requires most { size ≤ 16 }
@@ -88,7 +85,6 @@ fn tasks_during(alloc: Global, size: u32) -> Result<Vec<Task>, NoMemory>
     Ok(tasks)
 }
 
-/// All that the editors do.
 fn put_files(alloc: Global, tasks: &mut Vec<Task>, size: u32) -> Result<(), NoMemory>
     requires { size ≤ 16 }
     ensures { OnOk result (AddsActs tasks.old tasks.new
@@ -100,7 +96,6 @@ fn put_files(alloc: Global, tasks: &mut Vec<Task>, size: u32) -> Result<(), NoMe
     Ok(())
 }
 
-/// All that this editor does.
 fn put_commits(alloc: Global, tasks: &mut Vec<Task>, editor: u32) -> Result<(), NoMemory>
     requires { editor ≤ 16 }
     ensures { OnOk result (AddsActs tasks.old tasks.new (specs.lines_of_editor editor)) }
@@ -111,7 +106,7 @@ fn put_commits(alloc: Global, tasks: &mut Vec<Task>, editor: u32) -> Result<(), 
     Ok(())
 }
 
-/// One commit of this editor, 0 to 3, below the files that it puts.
+/// `commit` is 0 to 3, and its files come first.
 fn put_commit(
     alloc: Global,
     tasks: &mut Vec<Task>,
@@ -133,7 +128,6 @@ fn put_commit(
     Ok(())
 }
 
-/// All that the feeder does.
 fn put_draws(alloc: Global, tasks: &mut Vec<Task>) -> Result<(), NoMemory>
     ensures { OnOk result (AddsActs tasks.old tasks.new specs.lines_of_feeder) }
 {
@@ -143,7 +137,6 @@ fn put_draws(alloc: Global, tasks: &mut Vec<Task>) -> Result<(), NoMemory>
     Ok(())
 }
 
-/// The fates of a draw's packets.
 #[tactic(auto, unfolding(crate::specs::Generated::fates))]
 fn fates(alloc: Global) -> Result<Vec<Fate>, NoMemory>
     ensures { MakesList result specs.fates }
@@ -153,7 +146,6 @@ fn fates(alloc: Global) -> Result<Vec<Fate>, NoMemory>
     Ok(fates)
 }
 
-/// All that the readers do before the end.
 fn put_opens(alloc: Global, tasks: &mut Vec<Task>, size: u32) -> Result<(), NoMemory>
     requires least { 1 ≤ size }
     requires most { size ≤ 16 }
@@ -166,7 +158,6 @@ fn put_opens(alloc: Global, tasks: &mut Vec<Task>, size: u32) -> Result<(), NoMe
     Ok(())
 }
 
-/// All that this reader does before the end.
 fn put_opens_of(
     alloc: Global,
     tasks: &mut Vec<Task>,
@@ -185,7 +176,7 @@ fn put_opens_of(
     Ok(())
 }
 
-/// A line for each task, numbered from 1 on.
+/// Numbered from 1.
 fn number_tasks(alloc: Global, tasks: Vec<Task>) -> Result<Vec<TaskLine>, NoMemory>
     requires { length tasks.items + 1 < 2 ^ 32 }
     ensures { IfOk result (λ lines.
@@ -200,7 +191,7 @@ fn number_tasks(alloc: Global, tasks: Vec<Task>) -> Result<Vec<TaskLine>, NoMemo
     Ok(lines)
 }
 
-/// The opens of all files at the end, by their editors, numbered from `first` on.
+/// Numbered from `first`.
 fn finales(alloc: Global, size: u32, first: u32) -> Result<Vec<Finale>, NoMemory>
     requires size { size ≤ 16 }
     requires room { first + FILES * size < 2 ^ 32 }
@@ -214,7 +205,6 @@ fn finales(alloc: Global, size: u32, first: u32) -> Result<Vec<Finale>, NoMemory
     Ok(finales)
 }
 
-/// The opens of this editor's files at the end, numbered from `first` on.
 fn put_finales(
     alloc: Global,
     finales: &mut Vec<Finale>,
@@ -236,7 +226,7 @@ fn put_finales(
     Ok(())
 }
 
-/// The path of a file of an editor, 1 to 16; the file is 0 to 31.
+/// Editors are 1 to 16, files 0 to 31.
 fn file_path(alloc: Global, editor: u32, file: u32) -> Result<Path, NoMemory>
     requires editor { editor ≤ 16 }
     requires file { file < FILES }
@@ -251,7 +241,6 @@ fn file_path(alloc: Global, editor: u32, file: u32) -> Result<Path, NoMemory>
     entry(&folder, second.as_str())
 }
 
-/// The path of an entry of this folder, whose name is one that a path may have.
 fn entry(folder: &Path, name: &str) -> Result<Path, NoMemory>
     requires name { is_name name.now ≡ true }
     requires depth { length folder.now < 16 }

@@ -1,6 +1,6 @@
-//! Scripts of sessions: a text of lines, each of which says one thing that an editor, a reader or the broadcaster's
-//! feeder does. It is read in its parts: what stands above `start`, what stands below it, and what is done at the end. The language is this
-//! project's own; docs of `read_parts` have its grammar. The generated script of the command `big` is made here too.
+//! Scripts of sessions: lines, each of which says what an editor, a reader or the feeder does; and
+//! the generated script of `big`. The language is this project's own; [`read_parts`] has its
+//! grammar.
 //!
 //! ```
 //! use session_script::{LineCause, ScriptFault, Stage, parse, read_parts};

@@ -31,7 +31,7 @@ pub enum Keyword {
 }
 
 impl Keyword {
-    /// The keyword that a word is, byte for byte.
+    /// Byte for byte.
     pub fn parse(word: &[u8]) -> Option<Keyword>
         ensures { result ≡ keyword_of word.now }
     {
@@ -69,7 +69,7 @@ fn is(word: &[u8], text: &str) -> bool
     word == text.as_bytes()
 }
 
-/// The part of a script that a line stands in.
+/// The part of a script.
 #[derive(Clone, Copy, Debug, PartialEq, Eq)]
 pub enum Part {
     /// Above any `start`, `settle` and `finale`.
@@ -85,13 +85,13 @@ pub enum Part {
 pub enum Said {
     /// Nothing: it is empty or begins with `#`.
     Passed,
-    /// The session's threads start below it.
+    /// Threads start below it.
     Starts,
     /// What an actor does.
     Does(Task),
     /// The session settles.
     Settles,
-    /// After all others this reader opens this path.
+    /// This reader opens this path after all others.
     Finale(u32, Path),
 }
 
@@ -161,7 +161,7 @@ fn named(alloc: Global, mut words: Words) -> Result<(u32, Path), LineFault>
     Ok((actor, path))
 }
 
-/// What the words after a line's first one say, where a line of this keyword may stand.
+/// What follows a line's first word, if it may be in this part.
 fn say(alloc: Global, part: Part, keyword: Keyword, mut words: Words) -> Result<Said, LineFault>
     requires { grammar.may_stand part keyword ≡ true }
     ensures gives { Gives view_said line_cause result (said_by keyword (words_left words.entry)) }
@@ -206,7 +206,6 @@ fn say(alloc: Global, part: Part, keyword: Keyword, mut words: Words) -> Result<
     }
 }
 
-/// Whether a line of this keyword may stand in this part.
 fn may_stand(part: Part, keyword: Keyword) -> bool
     ensures { result ≡ grammar.may_stand part keyword }
 {

@@ -20,11 +20,11 @@ use std::mem;
 #[derive(Drop)]
 struct Reading {
     alloc: Global,
-    /// How many lines were read, at most the greatest `u32`.
+    /// At most the greatest `u32`.
     number: u32,
-    /// The part of the script that is reached.
+    /// The part that is reached.
     part: Part,
-    /// Whom the lines name, in the order of the first lines that do.
+    /// In the order of the first lines that name them.
     editors: IndexSet<u32>,
     readers: IndexSet<u32>,
     before: Vec<TaskLine>,
@@ -54,7 +54,7 @@ impl Reading {
         }
     }
 
-    /// Reads one line more. After a refusal it is of no use any more.
+    /// After a refusal it is of no use.
     fn read(&mut self, line: &[u8]) -> Result<(), ScriptFault>
         ensures says { (above : List Saying)
             → StandsFor self.old above
@@ -74,7 +74,6 @@ impl Reading {
         }
     }
 
-    /// Adds what the line says whose number stands.
     fn add(&mut self, said: Said) -> Result<(), NoMemory>
         requires { Suits self.old.part (view_said said) }
         ensures adds { OnOk result (IsShaped self.old → Adds self.old self.new (view_said said)) }
@@ -112,7 +111,6 @@ impl Reading {
         }
     }
 
-    /// The parts that the lines make.
     fn finish(self) -> Result<Parts, NoMemory>
         ensures script { IfOk result (λ parts. script_of_parts parts ≡ script_read self) }
         ensures memory { OnErr result (SaysSomething (script_read self)) }
@@ -128,7 +126,7 @@ impl Reading {
     }
 }
 
-/// Puts an actor last that isn't there.
+/// Puts a new actor last.
 fn mention(actors: &mut IndexSet<u32>, actor: Option<u32>) -> Result<(), NoMemory>
     ensures { OnOk result (actors.new.keys ≡ with_actor actors.old.keys actor) }
 {
@@ -138,7 +136,6 @@ fn mention(actors: &mut IndexSet<u32>, actor: Option<u32>) -> Result<(), NoMemor
     Ok(())
 }
 
-/// The actors, in their order.
 fn listed(alloc: Global, actors: &IndexSet<u32>) -> Result<Vec<u32>, NoMemory>
     ensures list { MakesList result actors.now.keys }
     ensures memory { OnErr result (0 < length actors.now.keys) }
@@ -148,37 +145,32 @@ fn listed(alloc: Global, actors: &IndexSet<u32>) -> Result<Vec<u32>, NoMemory>
     Ok(list)
 }
 
-/// Reads a script in its parts, or names its first line that doesn't fit. The language is this project's own.
+/// Reads a script in its parts, or names its first line that doesn't fit.
 ///
-/// A script is lines, each but maybe the last ended by a line feed. An empty line and one that begins with `#` say nothing,
-/// and are counted. The words of a line stand between single spaces, so a second space or one at the end makes an empty
-/// word, which is read as the word that it stands for. EDITOR and READER are 1 to 64. Numbers are decimal digits without a
-/// sign and without a leading zero, `0` itself excepted. PATH is a text that `Path::parse` takes.
+/// Line feeds end lines. Lines that are empty or begin with `#` say nothing, and are counted. Words
+/// have single spaces between them. EDITOR and READER are 1 to 64. Numbers are decimal digits
+/// without sign or leading zeros. PATH is as `Path::parse` takes it.
 ///
 /// | Line | Says |
 /// |---|---|
-/// | `put EDITOR PATH HEX` | an edit: a file of these bytes; HEX is `-` for none, else two hexadecimal digits of either case a byte |
-/// | `fill EDITOR PATH LENGTH FROM` | an edit: a file of LENGTH bytes, 0 to 16,777,217, made from FROM, 0 to 255 |
+/// | `put EDITOR PATH HEX` | an edit: a file; two hexadecimal digits a byte, or `-` |
+/// | `fill EDITOR PATH LENGTH FROM` | an edit: 0 to 16,777,217 bytes made from FROM, 0 to 255 |
 /// | `remove EDITOR PATH` | an edit: no file |
-/// | `mkdir EDITOR PATH` | an edit: a folder that is kept, whether or not something stands in it |
+/// | `mkdir EDITOR PATH` | an edit: a kept folder |
 /// | `rmdir EDITOR PATH` | an edit: no kept folder |
-/// | `commit EDITOR` | the editor's edits since its last commit are committed |
-/// | `draw N FATE..` | N sections are sent, 1 to 1,048,576; `kCOUNT` keeps and `dCOUNT` loses COUNT packets, 1 to 65,536, and `fBIT` inverts one bit, 0 to 1,503, of one packet; at most 65,536 packets have a fate |
+/// | `commit EDITOR` | the editor's edits since its last commit |
+/// | `draw N FATE..` | 1 to 1,048,576 sections; at most 65,536 packets have a fate |
 /// | `open READER PATH` | a reader opens a path |
-/// | `start` | the lines above are those of the first stage; at most once |
+/// | `start` | the lines above are the first stage; at most once |
 /// | `settle` | two draws after all others; at most once |
 /// | `finale READER PATH` | an open after all that |
 ///
-/// Below `settle` only finales may stand, and below a finale too.
+/// `kCOUNT` keeps and `dCOUNT` loses 1 to 65,536 packets; `fBIT` inverts bit 0 to 1,503 of one.
+/// Only finales may follow `settle` or a finale. A line's first cause is its keyword, its part, and
+/// then word by word.
 ///
-/// `BadLine` comes exactly where a line doesn't fit. It names the first such line, counted from 1 and at most by the greatest
-/// `u32`, and that line's first cause: an unknown first word, a line that may not stand there, and then word by word from
-/// the left. `NoMemory` comes only where a line below lines that all fit asks for memory: one that fits and does
-/// something, or one whose actor fits and which has a word for its path.
-///
-/// The text is read once. Memory is taken for each line that does something, for the names of its path and for its file's
-/// bytes, for those whom lines name, and 4 bytes for each fate, so a line of 14 bytes can ask for 262,144; the filled files
-/// are not made here.
+/// A draw of 14 bytes can ask for 262,144 bytes of memory, 4 for each fate. Filled files aren't
+/// made here.
 pub fn read_parts(alloc: Global, text: &[u8]) -> Result<Parts, ScriptFault>
     ensures grammar { Gives script_of_parts cause result (meaning_of text.now) }
     ensures ranges { IfOk result (λ parts. IsInRanges (script_of_parts parts)) }
@@ -194,7 +186,7 @@ pub fn read_parts(alloc: Global, text: &[u8]) -> Result<Parts, ScriptFault>
     Ok(reading.finish()?)
 }
 
-/// Reads a script as [`read_parts`] does, as one list of lines. Memory is taken for the list too.
+/// As [`read_parts`], in one list of lines.
 pub fn parse(alloc: Global, text: &[u8]) -> Result<Script, ScriptFault>
     ensures grammar { Gives scripts.view cause result (meaning_of text.now) }
     ensures ranges { IfOk result (λ script. IsInRanges (scripts.view script)) }

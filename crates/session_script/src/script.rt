@@ -9,25 +9,24 @@ use std::fmt;
 use thiserror::Error;
 use ts_packet::Fate;
 
-/// Why a line doesn't fit. Of one line the first that holds counts, from the left to the right.
+/// Why a line doesn't fit: the first cause from the left.
 #[derive(Clone, Copy, Debug, PartialEq, Eq)]
 pub enum LineCause {
-    /// The first word is none of the eleven keywords.
+    /// The first word is no keyword.
     Unknown,
-    /// A line of this keyword may not stand here: a second `start` or `settle`, or another line than `finale` after
-    /// `settle` or a `finale`.
+    /// A second `start` or `settle`, or another line than `finale` after `settle` or a `finale`.
     Order,
-    /// A word is no number, or none of its range.
+    /// A word is no number, or out of range.
     BadNumber,
     /// A word is no path.
     BadPath,
-    /// A word is neither `-` nor the hexadecimal digits of one or more bytes.
+    /// A word is neither `-` nor hexadecimal digits of one or more bytes.
     BadHex,
-    /// A word of a draw is no fate, or makes more than 65,536 of them.
+    /// A word is no fate, or makes more than 65,536.
     BadFate,
-    /// A word isn't there.
+    /// A word is missing.
     Missing,
-    /// A word stands after the last one of its line.
+    /// A word follows the last one.
     Extra,
 }
 
@@ -56,10 +55,10 @@ impl std::error::Error for LineCause {}
 /// Why a text gives no script.
 #[derive(Clone, Copy, Debug, PartialEq, Eq, Error)]
 pub enum ScriptFault {
-    /// The number of the first line that doesn't fit, counted from 1 and at most the greatest `u32`, and its first cause.
+    /// The first line that doesn't fit, from 1, at most the greatest `u32`, and its cause.
     #[error("line {0}: {1}")]
     BadLine(u32, LineCause),
-    /// No memory was found.
+    /// Memory ran out.
     #[error("out of memory")]
     NoMemory,
 }
@@ -75,18 +74,18 @@ impl From<AllocError> for ScriptFault {
     }
 }
 
-/// The part of a session in which a line is run.
+/// When a line is run.
 #[derive(Clone, Copy, Debug, PartialEq, Eq)]
 pub enum Stage {
-    /// A line above `start`: one thread runs these in written order.
+    /// Above `start`, in written order on one thread.
     Before,
     /// Any other line but those of `After`.
     During,
-    /// `settle` and each `finale`, after all others.
+    /// `settle` and finales.
     After,
 }
 
-/// What a line does: what the [`Task`] of its name says, where a finale opens as `open` does, or `settle`.
+/// What a line does, as [`Task`] says. A finale is an `open`.
 #[derive(Drop)]
 pub enum Action {
     Put(u32, Path, Blob),
@@ -97,14 +96,14 @@ pub enum Action {
     Commit(u32),
     Draw(u32, Vec<Fate>),
     Open(u32, Path),
-    /// `settle`: two draws of 1,048,576 sections without fates.
+    /// Two draws of 1,048,576 sections without fates.
     Settle,
 }
 
 /// A line that does something.
 #[derive(Drop)]
 pub struct Line {
-    /// The line's number, counted from 1 with the lines that are passed over, and at most the greatest `u32`.
+    /// Counted from 1 with lines that say nothing, at most the greatest `u32`.
     pub number: u32,
     pub stage: Stage,
     pub action: Action,
@@ -113,40 +112,40 @@ pub struct Line {
 /// What a text says.
 #[derive(Drop)]
 pub struct Script {
-    /// Each editor that a line names, in the order of the first lines that do.
+    /// In the order of the first lines that name them.
     pub editors: Vec<u32>,
-    /// Each reader that a line names, in the order of the first lines that do.
+    /// As the editors.
     pub readers: Vec<u32>,
-    /// The lines that do something, in written order.
+    /// In written order.
     pub lines: Vec<Line>,
 }
 
-/// What a line has its actor do. Editors and readers are 1 to 64.
+/// What an actor does. Editors and readers are 1 to 64.
 #[derive(Drop)]
 pub enum Task {
-    /// `put EDITOR PATH HEX`: a file of these bytes, for the editor's next commit.
+    /// `put`: a file of these bytes.
     Put(u32, Path, Blob),
-    /// `fill EDITOR PATH LENGTH FROM`: a file of 0 to 16,777,217 bytes, of which byte i is FROM + 7i + i/256 modulo 256.
+    /// `fill`: 0 to 16,777,217 bytes; byte i is FROM + 7i + i/256 modulo 256.
     Fill(u32, Path, u32, u8),
-    /// `remove EDITOR PATH`: no file, for the editor's next commit.
+    /// `remove`: no file.
     Remove(u32, Path),
-    /// `mkdir EDITOR PATH`: a folder that is kept, whether or not something stands in it, for the editor's next commit.
+    /// `mkdir`: a kept folder.
     MakeFolder(u32, Path),
-    /// `rmdir EDITOR PATH`: no kept folder, for the editor's next commit.
+    /// `rmdir`: no kept folder.
     RemoveFolder(u32, Path),
-    /// `commit EDITOR`: all edits of the editor since its last commit line.
+    /// `commit`: the editor's edits since its last commit.
     Commit(u32),
-    /// `draw N FATE..`: 1 to 1,048,576 sections are sent; packet i has the fate at place i modulo their number, which is 0
-    /// to 65,536. Where there is none, each packet is kept.
+    /// `draw`: 1 to 1,048,576 sections; packet i has fate i modulo their number, 0 to 65,536.
+    /// Without fates all arrive.
     Draw(u32, Vec<Fate>),
-    /// `open READER PATH`: a reader opens a path.
+    /// `open`: a reader opens a path.
     Open(u32, Path),
 }
 
 impl Task {
     ghost use Rattle.session_script.specs.Scripts.{view_action, act_of, editor_of, reader_of};
 
-    /// The editor whose task it is, where it is one's.
+    /// The editor whose task it is, if any.
     pub fn editor(&self) -> Option<u32>
         ensures { result ≡ editor_of (act_of self.now) }
     {
@@ -161,7 +160,7 @@ impl Task {
         }
     }
 
-    /// The reader whose task it is, where it is one's.
+    /// The reader whose task it is, if any.
     pub fn reader(&self) -> Option<u32>
         ensures { result ≡ reader_of (act_of self.now) }
     {
@@ -171,7 +170,6 @@ impl Task {
         }
     }
 
-    /// The same, as an action of a script's line.
     fn into_action(self) -> Action
         ensures { view_action result ≡ act_of self }
     {
@@ -188,18 +186,18 @@ impl Task {
     }
 }
 
-/// A task, and the number of its line, counted from 1 with the lines that are passed over, and at most the greatest `u32`.
+/// A task, and its line's number, as [`Line`]'s.
 #[derive(Drop)]
 pub struct TaskLine {
     pub number: u32,
     pub task: Task,
 }
 
-/// An open after all else, and the number of its line.
+/// An open after all else, and its line's number.
 #[derive(Drop)]
 pub struct Finale {
     pub number: u32,
-    /// The reader, 1 to 64, who opens the path.
+    /// 1 to 64.
     pub reader: u32,
     pub path: Path,
 }
@@ -207,22 +205,22 @@ pub struct Finale {
 /// What a script says, in its parts.
 #[derive(Drop)]
 pub struct Parts {
-    /// Each editor that a line names, in the order of the first lines that do.
+    /// In the order of the first lines that name them.
     pub editors: Vec<u32>,
-    /// Each reader that a line names, in the order of the first lines that do.
+    /// As the editors.
     pub readers: Vec<u32>,
-    /// The tasks above `start`, in written order; without `start` there is none.
+    /// Above `start`, in written order; none without `start`.
     pub before: Vec<TaskLine>,
-    /// The tasks below `start`, in written order.
+    /// Below `start`, in written order.
     pub during: Vec<TaskLine>,
-    /// The number of the line `settle`, where there is one.
+    /// The line of `settle`, if any.
     pub settle: Option<u32>,
-    /// The opens at the end, in written order.
+    /// In written order.
     pub finales: Vec<Finale>,
 }
 
 impl Parts {
-    /// The same as one list of lines, in written order. Out of memory is the only refusal, and comes only where there is a line.
+    /// The same as one list, in written order. Without lines it takes no memory.
     #[tactic(auto, using(crate::proofs::Lists::line_count))]
     pub fn into_script(self, alloc: Global) -> Result<Script, NoMemory>
         ensures script { IfOk result (λ script. view script ≡ script_of_parts self) }
@@ -247,7 +245,6 @@ impl Parts {
     }
 }
 
-/// Adds the lines of tasks of one stage. Out of memory comes only where there is a task.
 fn add_tasks(lines: &mut Vec<Line>, stage: Stage, tasks: Vec<TaskLine>) -> Result<(), NoMemory>
     ensures added { OnOk result
         (map view_line lines.new.items
@@ -264,7 +261,6 @@ fn add_tasks(lines: &mut Vec<Line>, stage: Stage, tasks: Vec<TaskLine>) -> Resul
     Ok(())
 }
 
-/// Adds the lines of finales. Out of memory comes only where there is one.
 fn add_finales(lines: &mut Vec<Line>, finales: Vec<Finale>) -> Result<(), NoMemory>
     ensures added { OnOk result
         (map view_line lines.new.items

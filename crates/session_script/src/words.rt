@@ -22,13 +22,13 @@ pub const MOST_ACTORS: u32 = 64;
 /// The most fates of one draw.
 pub const MOST_FATES: u32 = 65_536;
 
-/// The most bytes that a line fills a file with: one more than a file may have.
+/// One byte more than a file may have.
 pub const MOST_FILLED: u32 = MOST_CONTENT as u32 + 1;
 
-/// The last bit of a packet, which has 188 bytes.
+/// A packet has 188 bytes.
 const LAST_BIT: u32 = 1_503;
 
-/// The limits of a script: its editors, and its readers; the fates of a draw; the bytes of a filled file.
+/// The limits of a script: actors, fates of a draw, bytes of a filled file.
 pub fn limits_are_numbers()
     ensures actors { MOST_ACTORS ≡ 64 }
     ensures fates { MOST_FATES ≡ 65536 }
@@ -38,9 +38,9 @@ pub fn limits_are_numbers()
 /// Why a line can't be read.
 #[derive(Clone, Copy)]
 pub enum LineFault {
-    /// It doesn't fit, for this cause.
+    /// It doesn't fit.
     Bad(LineCause),
-    /// No memory was found.
+    /// Memory ran out.
     NoMemory,
 }
 
@@ -55,10 +55,10 @@ impl From<AllocError> for LineFault {
     }
 }
 
-/// The words of a line that weren't taken yet. Between two words stands one space, so that a word may be empty.
+/// The words of a line that are left, with one space between two. A word may be empty.
 #[derive(Clone, Copy)]
 pub struct Words<'a> {
-    /// The text from the next word on, or none where no word is left.
+    /// From the next word on; none if no word is left.
     rest: Option<&'a [u8]>,
 }
 
@@ -66,14 +66,14 @@ impl<'a> Words<'a> {
     ghost use Rattle.std.specs.Prelude.{MatchResult};
     ghost use Rattle.session_script.specs.Inner.{words_left};
 
-    /// All words of a line. Even an empty line has one, the empty word.
+    /// An empty line has one, the empty word.
     pub fn of(line: &'a [u8]) -> Words<'a>
         ensures { words_left result ≡ words_in line.now }
     {
         Words { rest: Some(line) }
     }
 
-    /// Takes the next word, where there is one.
+    /// Takes the next word, if any.
     pub fn next(&mut self) -> Option<&'a [u8]>
         ensures { MatchOption result ((words_left self.old ≡ []) × (words_left self.new ≡ []))
             (λ word. words_left self.old ≡ word.now ∷ words_left self.new) }
@@ -117,7 +117,7 @@ fn first_space(text: &[u8]) -> Option<usize>
     text.iter().position(|byte| *byte == b' ')
 }
 
-/// Takes a number of a range.
+/// From `least` to `greatest`.
 pub fn number(words: &mut Words, least: u32, greatest: u32) -> Result<u32, LineFault>
     ensures takes { Takes (λ n. n) result (words_left words.new)
         (word_by (decimal_in least greatest) LineCause.BadNumber (words_left words.old)) }
@@ -129,7 +129,7 @@ pub fn number(words: &mut Words, least: u32, greatest: u32) -> Result<u32, LineF
     decimal(word, least, greatest).ok_or(LineFault::Bad(LineCause::BadNumber))
 }
 
-/// Takes the number of an editor or of a reader, 1 to [`MOST_ACTORS`].
+/// 1 to [`MOST_ACTORS`].
 pub fn actor(words: &mut Words) -> Result<u32, LineFault>
     ensures takes { Takes (λ n. n) result (words_left words.new)
         (word_by actor_of LineCause.BadNumber (words_left words.old)) }
@@ -153,7 +153,7 @@ pub fn path(alloc: Global, words: &mut Words) -> Result<Path, LineFault>
     }
 }
 
-/// Takes a file's bytes: `-` for none, else two hexadecimal digits for each.
+/// `-` for none, else two hexadecimal digits a byte.
 pub fn content(alloc: Global, words: &mut Words) -> Result<Blob, LineFault>
     ensures takes { Takes (λ blob. blob) result (words_left words.new)
         (word_by content_in LineCause.BadHex (words_left words.old)) }
@@ -167,7 +167,6 @@ pub fn content(alloc: Global, words: &mut Words) -> Result<Blob, LineFault>
     Ok(Blob::new(alloc, bytes)?)
 }
 
-/// The bytes that hexadecimal digits write.
 fn bytes_of(alloc: Global, digits: &[u8]) -> Result<Vec<u8>, LineFault>
     ensures { Gives (λ bytes. bytes.items) line_cause result
         (ok_or (result_ok (decode_of digits.now)) LineCause.BadHex) }
@@ -179,7 +178,7 @@ fn bytes_of(alloc: Global, digits: &[u8]) -> Result<Vec<u8>, LineFault>
     }
 }
 
-/// What one word of a draw says: a fate, and how many packets have it one after another, 1 to [`MOST_FATES`].
+/// A fate, and how many packets have it, 1 to [`MOST_FATES`].
 fn fate_run(word: &[u8]) -> Option<(Fate, usize)>
     ensures fates { option_map (λ run. replicate run.1 run.0) result ≡ fates_in word.now }
     ensures most { IfSome result (λ run. run.1 ≤ MOST_FATES) }
@@ -192,7 +191,7 @@ fn fate_run(word: &[u8]) -> Option<(Fate, usize)>
     }
 }
 
-/// How many fates the words that are left make, 0 to [`MOST_FATES`], where each word makes some.
+/// 0 to [`MOST_FATES`], if each word makes some.
 fn fate_count(mut words: Words) -> Option<usize>
     ensures count { result ≡ option_map length (fates_of (words_left words.entry)) }
     ensures most { IfSome result (λ n. n ≤ MOST_FATES) }
@@ -208,7 +207,7 @@ fn fate_count(mut words: Words) -> Option<usize>
     Some(count)
 }
 
-/// The fates that the words that are left make. Memory is asked for once they are known to fit.
+/// Memory is asked for once the words are known to fit.
 pub fn fates(alloc: Global, mut words: Words) -> Result<Vec<Fate>, LineFault>
     ensures gives { Gives (λ fates. fates.items) line_cause result
         (ok_or (fates_of (words_left words.entry)) LineCause.BadFate) }

@@ -15,19 +15,12 @@ use receiver_commands::Status;
 use shell_streams::Output;
 use std::alloc::Global;
 
-/// Keeps a folder on the air: writes whole cycles of what it holds as packets (ISO/IEC 13818-1, 2.4.3) on one PID, with continuity counters from 0,
-/// and reads the folder before each of them. Another tree than that of the generation on the air is the next generation, in which each object
-/// keeps its key and its module as far as there is room. One that can't be read or is refused leaves the generation on the air.
+/// Keeps a folder on the air: reads it before each cycle, and writes the cycle as packets (ISO/IEC
+/// 13818-1, 2.4.3). Another tree is the next generation; one that can't be read or is refused
+/// leaves the generation on the air.
 ///
-/// `pid` is the PID of all packets, 0 to 8,191. `folder` is a path text of the folders, `carousel` the carousel's id, any 32-bit number,
-/// `cycles` is at least 1, and `weigh` says how often each module is sent in a cycle. The notices are told of each generation and of each
-/// reading that gave no tree.
-///
-/// `FolderFault` comes where the first reading finds no folder or the folders fail, and `TreeRefused` where the first tree is refused; then nothing was
-/// written. `TreeRefused` comes too, with the refusal of a season that is full, where generation 16,383 is on the air and another tree is read; then all cycles
-/// so far were written. After `WriteFault` and `NoMemory` a prefix of the packets was. These rules are this project's own.
-///
-/// Nothing may be pending in the output, and no notice told, when it is called.
+/// `pid` is 0 to 8,191, `folder` a path text, `carousel` any 32-bit id, and `cycles` at least 1.
+/// `notices` hear of each generation, and of each reading without a tree.
 pub fn air<O: Output, F: Folders, N: Notices>(
     alloc: Global,
     pid: u16,
@@ -39,10 +32,12 @@ pub fn air<O: Output, F: Folders, N: Notices>(
     folders: &mut F,
     notices: &mut N,
 ) -> Status
+    // What is handed in:
     requires pending { IsFlushed (O.state out.old) }
     requires in_range { pid < 8192 }
     requires some { 1 ≤ cycles }
     requires untold { N.told notices.old notices.old [] }
+    // What is sent, and what is left:
     ensures stays { StaysOnAir pid folder.now carousel weigh.now.weights cycles result
         (out_over O.state out.old out.new) (over F.tree F.faults folders.old folders.new)
         (N.told notices.old notices.new) }
@@ -60,7 +55,6 @@ pub fn air<O: Output, F: Folders, N: Notices>(
     }
 }
 
-/// The status of a playout that stopped.
 fn status_of(fault: AirFault) -> Status
     ensures { result ≡ fault_status fault }
 {
@@ -73,7 +67,6 @@ fn status_of(fault: AirFault) -> Status
     }
 }
 
-/// The status where no tree was read.
 fn unread_status(fault: Unread) -> Status
     ensures { result ≡ status_of_unread fault }
 {

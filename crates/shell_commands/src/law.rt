@@ -11,7 +11,7 @@ use psi_tables::{
 };
 use section_stream::packets_give_the_groups;
 
-/// What holds of all that is heard and found of any input: laws, and nothing is done.
+/// What holds of all that is heard and found.
 pub fn receptions()
     ensures { Receptions }
 {
@@ -27,7 +27,7 @@ pub fn receptions()
     one_mount_decides();
 }
 
-/// The limits of the commands and of what stands below them as numbers, and the kinds of objects as bytes.
+/// All limits as numbers, and the kinds of objects as bytes.
 pub fn limits_are_numbers()
     ensures { Limits }
 {

@@ -1,6 +1,6 @@
-//! The call for all commands that need no threads, and those of them that `receiver_commands` doesn't have: what a broadcaster publishes of
-//! a folder, and a script that is rehearsed. Each command takes its words, reads its input from a source or from a folder, and writes to a
-//! sink.
+//! The commands that need no threads: a broadcaster's, `rehearse`, and one call for these and the
+//! receiver's. Nothing may be pending in the output when one is called. The rules are this
+//! project's own.
 //!
 //! ```
 //! ghost use Rattle.std.specs.Prelude.{◌≡◌};

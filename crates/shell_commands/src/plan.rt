@@ -11,14 +11,8 @@ use receiver_commands::Status;
 use shell_streams::{Output, OutputFault};
 use std::alloc::Global;
 
-/// Tells what [`publish`](crate::publish::publish) would send of a folder: its objects with their modules, the modules, and how long a cycle is at
-/// a rate of `bitrate` bits a second, at least 1. The other values are those of `publish`.
-///
-/// `Done` comes where the folder can be published, and `NotAll` where the walk or the commit refuses it. `FolderFault` comes where the
-/// folders fail or the folder isn't there. In all three the whole text was written. After `WriteFault`, where the sink fails, and after
-/// `NoMemory` a prefix of one was written. No other status comes. These rules are this project's own.
-///
-/// Nothing may be pending in the output when it is called.
+/// Tells what [`publish`](crate::publish::publish) would send: a folder's objects and modules, and
+/// how long a cycle is at `bitrate` bits a second, at least 1; or why it can't.
 pub fn plan<O: Output, F: Folders>(
     alloc: Global,
     folder: &str,
@@ -40,7 +34,6 @@ pub fn plan<O: Output, F: Folders>(
     status_of(planned)
 }
 
-/// The status of a plan.
 fn status_of(planned: Result<PlanEnd, OutputFault>) -> Status
     ensures { result ≡ plan_status planned }
 {

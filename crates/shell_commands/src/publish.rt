@@ -22,20 +22,18 @@ use shell_streams::{Output, OutputFault};
 use std::alloc::Global;
 use std::sync::Arc;
 
-/// The PID on which a carousel is sent where the command names none (this project's own).
+/// The PID of a carousel, if the command names none.
 pub const PID: u16 = CAROUSEL_PID;
 
-/// Who commits the folder: the history has one entry, and nobody asks for it.
+/// Who commits the folder; nobody asks.
 const EDITOR: u32 = 1;
 
-/// Publishes a folder: its files and bare folders become one commit on generation 0 of the carousel, and generation 1 is written as so many
-/// whole cycles of packets (ISO/IEC 13818-1, 2.4.3) on one PID, with continuity counters from 0. All cycles are one group of sections,
-/// which stand back to back.
+/// Publishes a folder: one commit of it makes generation 1, which is written as packets (ISO/IEC
+/// 13818-1, 2.4.3) in `cycles` whole cycles, 1 to 1,000, as one group of sections. Continuity
+/// counters begin at 0.
 ///
-/// `pid` is the PID of all packets, 0 to 8,191. `folder` is a path text of the folders, `carousel` the carousel's id, any 32-bit
-/// number, `cycles` is 1 to 1,000, and `weigh` says how often each module is sent in a cycle, which is 1 to 8 times. The answer is
-/// `FolderFault` where the folders fail or the folder isn't there, and `TreeRefused` exactly where the walk or the commit refuses what
-/// the folder holds; then nothing is written. After `WriteFault` and `NoMemory` a prefix of the packets was written.
+/// `pid` is 0 to 8,191, `folder` a path text, and `carousel` any 32-bit id. Nothing is written if
+/// the folder can't be read or its tree is refused.
 pub fn publish<O: Output, F: Folders>(
     alloc: Global,
     pid: u16,
@@ -64,7 +62,7 @@ pub fn publish<O: Output, F: Folders>(
     }
 }
 
-/// Generation 1 of the carousel, made of the folder by one commit.
+/// Generation 1, made of the folder by one commit.
 pub fn first_generation<F: Folders>(
     alloc: Global,
     folder: &str,
@@ -82,13 +80,13 @@ pub fn first_generation<F: Folders>(
     let edits = Edits::new(edits);
     let mut journal = Journal::new(alloc, carousel, weigh.kept())?;
     journal.commit_edits(EDITOR, edits)?;
-    // Nothing is done with the entries: they say that the tree of the commit can be published.
+    // Only for what it proves: the commit's tree can be published.
     let _entries = journal.entries();
     let generation = Arc::try_clone(journal.current())?;
     Ok(generation)
 }
 
-/// Writes so many cycles of a generation under these weights, which are one group, on the PID `pid`.
+/// All cycles are one group.
 fn send<O: Output>(
     alloc: Global,
     pid: u16,

@@ -20,11 +20,9 @@ use receiver_commands::Status;
 use shell_streams::{Output, OutputFault};
 use std::alloc::Global;
 
-/// Publishes a folder as `publish` does, with the tables that name the carousel before each cycle (ISO/IEC 13818-1, 2.4.4): the program
-/// association table on the PID 0 and the map table of program 1 on the PID 32. Each of the three PIDs has continuity counters of its
-/// own, from 0, and each cycle is a group of sections of its own.
-///
-/// The values and the statuses are those of `publish`.
+/// Publishes a folder as `publish` does, with the PAT on PID 0 and the map table of program 1 on
+/// PID 32 before each cycle (ISO/IEC 13818-1, 2.4.4). Each cycle is a group of its own, and each
+/// PID has counters of its own.
 pub fn publish_psi<O: Output, F: Folders>(
     alloc: Global,
     folder: &str,
@@ -51,7 +49,7 @@ pub fn publish_psi<O: Output, F: Folders>(
     }
 }
 
-/// Writes so many cycles of a generation under these weights, each after the tables.
+/// Each cycle comes after the tables.
 fn send_announced<O: Output>(
     alloc: Global,
     generation: &Generation,
@@ -76,7 +74,7 @@ fn send_announced<O: Output>(
     out.flush()
 }
 
-/// Sends the tables once; the packets need room.
+/// Sends the tables once. `room` is for their packets.
 fn announce<O: Output>(
     announcer: &mut Announcer,
     room: &mut Vec<[u8; PACKET_LENGTH]>,

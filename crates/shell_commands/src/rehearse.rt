@@ -13,16 +13,8 @@ use std::alloc::Global;
 /// The most bytes of a script.
 pub const MOST_SCRIPT_BYTES: usize = 16_777_216;
 
-/// Reads a script, runs its events in written order in one world of carousel 1, in which each module is sent as often as it weighs,
-/// and writes a line for each commit, draw and open after it has happened. The language and the lines are this project's own.
-///
-/// `ReadFault` comes where the source fails, and `InputTooLong` exactly where at least a byte more than [`MOST_SCRIPT_BYTES`] is read.
-/// The whole input is read before anything else is done. `BadLine` comes exactly where it is no script; it names the
-/// first line that doesn't fit, and that line's first cause. In these three cases nothing is written. Then the events happen:
-/// `Done` comes where all did and the whole report was written, and after `WriteFault`, where the sink fails, and
-/// `NoMemory` a prefix of the report of those that happened was. No other status comes.
-///
-/// Nothing may be pending in the output when it is called.
+/// Runs a script's events in written order in one world of carousel 1, and writes a line after each
+/// commit, draw and open. The whole script is judged before the first event.
 pub fn rehearse<S: Source, O: Output>(
     alloc: Global,
     weigh: Weigh,
@@ -43,7 +35,7 @@ pub fn rehearse<S: Source, O: Output>(
         Ok(parts) => parts,
         Err(fault) => return Status::from(fault),
     };
-    // The text is of no use any more, and may be large.
+    // The text may be large.
     drop(text);
     match rehearsal::rehearse(alloc, parts, weigh, out) {
         Ok(()) => Status::Done,

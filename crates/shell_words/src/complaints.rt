@@ -12,10 +12,8 @@ use crate::values::MOST_PID;
 use oc_bytes::NoMemory;
 use std::alloc::Global;
 
-/// The line of a complaint: the number of the word, what it stands for by its name on the page of help, and its range or form. This
-/// project's own text.
-///
-/// Out of memory is the only refusal.
+/// The line of a complaint: the word's number, the name of what it stands for on the page of help,
+/// and its range or form.
 pub fn complaint_text(alloc: Global, complaint: Complaint) -> Result<String, NoMemory>
     ensures { Spells result (complaints.complaint_line complaint) }
 {
@@ -31,7 +29,6 @@ pub fn complaint_text(alloc: Global, complaint: Complaint) -> Result<String, NoM
     }
 }
 
-/// The line of a word that doesn't fit.
 fn misfit_text(alloc: Global, number: usize, slot: Slot) -> Result<String, NoMemory>
     ensures { Spells result (complaints.complaint_line (Misfit number slot)) }
 {
@@ -43,7 +40,7 @@ fn misfit_text(alloc: Global, number: usize, slot: Slot) -> Result<String, NoMem
     Ok(text)
 }
 
-/// The name on the pages of help.
+/// As on the pages of help.
 fn slot_name(slot: Slot) -> &'static str
     ensures { result.now ≡ complaints.slot_name slot }
 {
@@ -64,7 +61,6 @@ fn slot_name(slot: Slot) -> &'static str
     }
 }
 
-/// The range or the form of what a word stands for.
 fn rule_text(alloc: Global, slot: Slot) -> Result<String, NoMemory>
     ensures { Spells result (complaints.rule_text slot) }
 {

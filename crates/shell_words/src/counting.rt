@@ -14,7 +14,7 @@ use clap::error::ErrorKind;
 use clap::{Arg, ArgAction, Command};
 use std::alloc::{AllocError, Global};
 
-/// Refuses words of another number than the keyword's command takes. The first word is the keyword.
+/// Refuses another number of words than the command takes. The first word is the keyword.
 pub fn count<'a>(alloc: Global, keyword: Keyword, words: &'a [String]) -> Result<(), WordsFault>
     requires keyword { 0 < length words.now }
     requires plain { list_any (λ word. begins_with_dash (string_bytes word)) words.now ≡ false }
@@ -59,7 +59,6 @@ fn syntax<'a>(alloc: Global, keyword: Keyword) -> Result<Command<'a>, AllocError
     }
 }
 
-/// Four words.
 fn four<'a>(alloc: Global, name: &'a str) -> Result<Command<'a>, AllocError>
     ensures { IfOk result (λ c. app_of c ≡ counting.four_app name.entry.now) }
 {
@@ -70,7 +69,6 @@ fn four<'a>(alloc: Global, name: &'a str) -> Result<Command<'a>, AllocError>
         .arg(one(alloc, "FOURTH"))
 }
 
-/// Two words.
 fn two<'a>(alloc: Global, name: &'a str) -> Result<Command<'a>, AllocError>
     ensures { IfOk result (λ c. app_of c ≡ counting.two_app name.entry.now) }
 {
@@ -79,7 +77,6 @@ fn two<'a>(alloc: Global, name: &'a str) -> Result<Command<'a>, AllocError>
         .arg(one(alloc, "FOLDER"))
 }
 
-/// One word.
 fn single<'a>(alloc: Global, name: &'a str) -> Result<Command<'a>, AllocError>
     ensures { IfOk result (λ c. app_of c ≡ counting.single name.entry.now) }
 {
@@ -105,7 +102,6 @@ fn publish<'a>(alloc: Global, name: &'a str) -> Result<Command<'a>, AllocError>
         .arg(one(alloc, "CYCLES"))
 }
 
-/// A positional that one word is for.
 fn one<'a>(alloc: Global, name: &'a str) -> Arg<'a>
     ensures rule { rule_of result ≡ one name.entry.now }
     ensures local { result.global ≡ false }
@@ -113,7 +109,6 @@ fn one<'a>(alloc: Global, name: &'a str) -> Arg<'a>
     Arg::new(alloc, name).required(true)
 }
 
-/// A positional that one or more words are for.
 fn one_or_more<'a>(alloc: Global, name: &'a str) -> Arg<'a>
     ensures rule { rule_of result ≡ one_or_more name.entry.now }
     ensures local { result.global ≡ false }

@@ -27,7 +27,6 @@ pub enum Keyword {
     Air,
 }
 
-/// The words of commands, each with its keyword.
 fn keywords() -> &'static [(&'static str, Keyword)]
     ensures { map (λ k. (k.0.now, k.1)) result.now ≡ keyword_table }
 {
@@ -54,7 +53,7 @@ fn keywords() -> &'static [(&'static str, Keyword)]
 }
 
 impl Keyword {
-    /// The keyword that a word is, byte for byte.
+    /// Byte for byte.
     pub fn parse(word: &str) -> Option<Keyword>
         ensures words { (words : List Bytes)
             → command_named word.now words ≡ words_after words result }

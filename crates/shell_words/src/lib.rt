@@ -1,4 +1,5 @@
-//! The words of commands, and the texts of answers, of refusals and of a report's lines.
+//! The words of commands, and the texts of answers, of refusals and of a report's lines. The rules
+//! and texts are this project's own.
 //!
 //! ```
 //! use path_resolver::Answer;

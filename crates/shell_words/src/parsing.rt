@@ -22,25 +22,20 @@ use std::alloc::Global;
 /// The most cycles of one publication.
 pub const MOST_CYCLES: u32 = 1_000;
 
-/// The most cycles of a folder that stays on the air.
+/// The most cycles of a folder on the air.
 pub const MOST_AIR_CYCLES: u32 = u32::MAX;
 
-/// The most bits that are sent in a second.
+/// The most bits a second.
 pub const MOST_BITRATE: u32 = u32::MAX;
 
-/// The greatest size of a made-up session.
+/// The greatest size of a generated session.
 pub const MOST_BIG: u32 = 16;
 
-/// The command that the words of a command line name, without the program's name, with the values of its words. These are
-/// this project's own rules.
+/// The command that the words name, the program's name left out, with its values.
 ///
-/// The first word is the command's, byte for byte. Behind `why` any words may stand. Of the other commands a word that begins with `-` is refused. Numbers are decimal digits
-/// without a sign and without a leading zero, `0` itself excepted, in the ranges that `Command` gives; a folder has at
-/// least one byte; a path is a text that `Path::parse` takes; a table is NAME=PID or several with a comma between each two. At most
-/// [`MOST_WATCHED`](crate::MOST_WATCHED) words stand for paths that are watched.
-///
-/// `WordsFault::Words` comes exactly where the words don't fit that, and `WordsFault::NoMemory` only where no memory was
-/// found.
+/// Only behind `why` may a word begin with `-`. Numbers are decimal digits without sign or leading
+/// zeros, in the ranges of [`Command`](crate::Command). A folder has at least one byte, a path is
+/// as `Path::parse` takes it, and a table is NAME=PID, with commas between several.
 pub fn command(alloc: Global, words: &[String]) -> Result<Command, WordsFault>
     ensures gives { commands.ReadsAs result (commands.command_of (word_bytes words.now)) }
     ensures sized { IfOk result commands.IsSized }
@@ -52,7 +47,7 @@ pub fn command(alloc: Global, words: &[String]) -> Result<Command, WordsFault>
     }
 }
 
-/// The command that the words name, where it isn't `why`.
+/// Of any command but `why`.
 fn plain_command(alloc: Global, words: &[String]) -> Result<Command, WordsFault>
     ensures gives { commands.ReadsAs result (commands.plain_command_of (word_bytes words.now)) }
     ensures sized { IfOk result commands.IsSized }
@@ -73,7 +68,6 @@ fn has_dash(words: &[String]) -> bool
     words.iter().any(|word| begins_with_dash(word))
 }
 
-/// The command of this keyword, with the values of the words after it.
 fn read(alloc: Global, keyword: Keyword, words: &[String]) -> Result<Command, WordsFault>
     requires { Fits keyword (length words.now) }
     ensures gives { commands.ReadsBy result (words_by keyword (word_bytes words.now)) }
@@ -155,7 +149,6 @@ fn open(alloc: Global, words: &[String]) -> Result<Command, WordsFault>
     Ok(Command::Open(pid, paths))
 }
 
-/// The PID that is the only word of a command.
 fn only_pid(words: &[String]) -> Option<u16>
     requires { length words.now ≡ 1 }
     ensures by { result ≡ commands.pid_by (word_bytes words.now) }
@@ -167,7 +160,7 @@ fn only_pid(words: &[String]) -> Option<u16>
     values::pid(pid.as_str())
 }
 
-/// A folder, the id of a carousel, and a number from 1 to `greatest`.
+/// The number is 1 to `greatest`.
 fn publication(
     alloc: Global,
     words: &[String],
@@ -191,7 +184,6 @@ fn publication(
     Ok((folder, carousel, number))
 }
 
-/// A PID, and what is published on it.
 fn publish_on(alloc: Global, words: &[String]) -> Result<Command, WordsFault>
     requires { length words.now ≡ 4 }
     ensures gives { commands.ReadsBy result (commands.publish_on_by (word_bytes words.now)) }
@@ -204,7 +196,6 @@ fn publish_on(alloc: Global, words: &[String]) -> Result<Command, WordsFault>
     Ok(Command::PublishOn(pid, folder, carousel, cycles))
 }
 
-/// A PID, and what stays on the air on it.
 fn air(alloc: Global, words: &[String]) -> Result<Command, WordsFault>
     requires { length words.now ≡ 4 }
     ensures gives { commands.ReadsBy result (commands.air_by (word_bytes words.now)) }
@@ -217,7 +208,6 @@ fn air(alloc: Global, words: &[String]) -> Result<Command, WordsFault>
     Ok(Command::Air(pid, folder, carousel, cycles))
 }
 
-/// A PID, and the folder that is made.
 fn extract(alloc: Global, words: &[String]) -> Result<Command, WordsFault>
     requires { length words.now ≡ 2 }
     ensures gives { commands.ReadsBy result (commands.extract_by (word_bytes words.now)) }
@@ -233,7 +223,6 @@ fn extract(alloc: Global, words: &[String]) -> Result<Command, WordsFault>
     Ok(Command::Extract(pid, folder))
 }
 
-/// A table of carousels, and paths.
 fn mounts(alloc: Global, words: &[String]) -> Result<Command, WordsFault>
     requires { 2 ≤ length words.now }
     ensures gives { commands.ReadsBy result (commands.mounts_by (word_bytes words.now)) }
@@ -244,7 +233,6 @@ fn mounts(alloc: Global, words: &[String]) -> Result<Command, WordsFault>
     Ok(Command::Mounts(table, paths))
 }
 
-/// A PID, and the paths that are watched.
 fn watch(alloc: Global, words: &[String]) -> Result<Command, WordsFault>
     requires { 2 ≤ length words.now }
     ensures gives { commands.ReadsBy result (commands.watch_by (word_bytes words.now)) }

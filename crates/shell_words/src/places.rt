@@ -28,23 +28,23 @@ pub enum Slot {
     Version,
     /// A module's size in bytes.
     Size,
-    /// The id of a download.
+    /// A download's id.
     Download,
-    /// The PID of packets.
+    /// A PID.
     Pid,
-    /// The PID of packets, or the word `sections`.
+    /// A PID, or the word `sections`.
     Source,
     /// A path in a carousel.
     Path,
     /// A folder of the system.
     Folder,
-    /// The id of a carousel.
+    /// A carousel's id.
     Carousel,
     /// How many cycles are sent.
     Cycles,
-    /// How many cycles are sent of a folder that stays on the air.
+    /// How many cycles of a folder on the air.
     AirCycles,
-    /// How many bits are sent in a second.
+    /// How many bits a second.
     Bitrate,
     /// The size of a generated session.
     Editors,
@@ -52,33 +52,33 @@ pub enum Slot {
     Table,
 }
 
-/// What is wrong with the words of a command line. Words are counted from 1, which is the command's.
+/// What is wrong with a command line. Words count from 1, the command's.
 #[derive(Clone, Copy, Debug, PartialEq, Eq)]
 pub enum Complaint {
-    /// Nothing is: they are the words of a command.
+    /// Nothing.
     Fits,
     /// The first word names no command.
     Unknown,
-    /// The word of this number begins with `-`, or isn't in the range or the form of what it stands for. Those before it fit.
+    /// The first word that doesn't fit: it begins with `-`, or isn't in its range or form.
     Misfit(usize, Slot),
-    /// The command takes no word of this number. Those before it fit.
+    /// The first word that is too many.
     TooMany(usize),
-    /// All words fit, and a word for this has to follow.
+    /// All words fit, and this one is missing.
     TooFew(Slot),
 }
 
-/// How many paths stand behind the other words of a command.
+/// How many paths follow a command's other words.
 #[derive(Clone, Copy)]
 pub enum Paths {
     /// None.
     NoPaths,
     /// One or more.
     AnyPaths,
-    /// One, or more up to this number.
+    /// One up to this number.
     UpTo(usize),
 }
 
-/// What the words behind a command's stand for, but for paths.
+/// Paths excepted.
 fn first_slots(keyword: Keyword) -> &'static [Slot]
     ensures { result.now ≡ places.first_slots keyword }
 {
@@ -98,7 +98,6 @@ fn first_slots(keyword: Keyword) -> &'static [Slot]
     }
 }
 
-/// The paths behind these.
 fn paths_behind(keyword: Keyword) -> Paths
     ensures { result ≡ places.paths_behind keyword }
 {
@@ -122,7 +121,7 @@ fn paths_behind(keyword: Keyword) -> Paths
     }
 }
 
-/// The slot of the path at a place, from 0.
+/// Places count from 0.
 fn path_slot(paths: Paths, place: usize) -> Option<Slot>
     ensures { result ≡ places.path_slot paths place }
 {
@@ -142,7 +141,7 @@ fn least_paths(paths: Paths) -> usize
     }
 }
 
-/// What the word at a place behind a command's stands for, from 0; none, where no word may stand there.
+/// None if no word may be there. Places count from 0.
 fn slot_at(keyword: Keyword, place: usize) -> Option<Slot>
     ensures { result ≡ places.slot_at keyword place }
 {
@@ -154,7 +153,6 @@ fn slot_at(keyword: Keyword, place: usize) -> Option<Slot>
     }
 }
 
-/// How many words have to stand behind a command's.
 fn needed(keyword: Keyword) -> usize
     ensures { result ≡ places.needed keyword }
 {
@@ -162,7 +160,7 @@ fn needed(keyword: Keyword) -> usize
 }
 
 impl Slot {
-    /// The least and the greatest number, where it stands for a number.
+    /// The least and the greatest number, if it stands for one.
     pub(crate) fn range(self) -> Option<(u32, u32)>
         ensures { result ≡ places.range_of self }
     {
@@ -180,7 +178,6 @@ impl Slot {
         }
     }
 
-    /// Whether a word is in the range or has the form of what it stands for.
     fn has_value(self, alloc: Global, word: &String) -> Result<bool, NoMemory>
         ensures { IfOk result (λ b. b ≡ places.has_value self (string_bytes word.now)) }
     {
@@ -190,7 +187,7 @@ impl Slot {
         }
     }
 
-    /// Whether a word has its form, where it doesn't stand for a number alone.
+    /// False of a slot that stands for a number alone.
     fn has_form(self, alloc: Global, word: &String) -> Result<bool, NoMemory>
         ensures { IfOk result (λ b. b ≡ places.has_form self (string_bytes word.now)) }
     {
@@ -230,7 +227,7 @@ fn is_table(alloc: Global, word: &String) -> Result<bool, NoMemory>
     }
 }
 
-/// Whether the word at a place behind a command's breaks a rule.
+/// Places count from 0.
 fn breaks(alloc: Global, keyword: Keyword, place: usize, word: &String) -> Result<bool, NoMemory>
     ensures { IfOk result (λ b. b ≡ places.breaks keyword place (string_bytes word.now)) }
 {
@@ -246,7 +243,6 @@ fn breaks(alloc: Global, keyword: Keyword, place: usize, word: &String) -> Resul
     }
 }
 
-/// What is wrong with the word at a place behind a command's, which breaks a rule.
 fn complaint_at(keyword: Keyword, place: usize) -> Complaint
     requires { place + 2 < 2 ^ 64 }
     ensures { result ≡ places.complaint_at place (places.slot_at keyword place) }
@@ -257,7 +253,7 @@ fn complaint_at(keyword: Keyword, place: usize) -> Complaint
     }
 }
 
-/// What is wrong with so many words behind a command's, each of which fits.
+/// Each of the words fits.
 fn complaint_after(keyword: Keyword, count: usize) -> Complaint
     ensures { result ≡ places.complaint_after keyword count }
 {
@@ -268,7 +264,6 @@ fn complaint_after(keyword: Keyword, count: usize) -> Complaint
     }
 }
 
-/// What is wrong with the words behind a command's.
 fn complaint_behind(
     alloc: Global,
     keyword: Keyword,
@@ -286,15 +281,8 @@ fn complaint_behind(
     Ok(complaint_after(keyword, words.len()))
 }
 
-/// What is wrong with the words of a command line, without the program's name: the first word that breaks a rule, and what it
-/// stands for. These are this project's own rules.
-///
-/// The first word has to be that of a command. Each word behind it has to be in the range or the form of what it stands for, as
-/// [`command`](crate::command) takes it; where the command takes no such word, it is one too many. Where all fit, but the command
-/// needs more, one is missing. What is behind the word `why` may be anything.
-///
-/// `Fits` comes exactly where `command` takes the words. A word that is named doesn't fit whatever follows it, and none before it is one that
-/// doesn't. Out of memory is the only refusal.
+/// What is wrong with the words, the program's name left out: the first that breaks a rule of
+/// [`command`](crate::command), and what it stands for. Words behind `why` may be anything.
 pub fn first_complaint(alloc: Global, words: &[String]) -> Result<Complaint, NoMemory>
     ensures gives { IfOk result (λ c. c ≡ places.complaint_of (word_bytes words.now)) }
     ensures fits { FitsIsAccepted (word_bytes words.now) }
@@ -312,7 +300,7 @@ pub fn first_complaint(alloc: Global, words: &[String]) -> Result<Complaint, NoM
     }
 }
 
-/// Whether the first word is that of the command that says what is wrong with other words.
+/// Whether the command is `why`.
 pub(crate) fn asks_why(words: &[String]) -> bool
     ensures value { result ≡ places.asks_why (word_bytes words.now) }
     ensures some { result ≡ true → 0 < length words.now }

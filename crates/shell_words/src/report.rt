@@ -14,32 +14,26 @@ use path_tree::print_name;
 use shell_streams::{Output, OutputFault};
 use std::alloc::Global;
 
-/// The most bytes of a file of which the digits are in memory at once.
+/// The most bytes of a file whose digits are in memory at once.
 const PIECE: usize = 16_384;
 
 // ---- what a line begins with
 
-/// What the line of a commit begins with: `commit EDITOR`, the editor's number, 1 to 64, in decimal.
-///
-/// Out of memory is the only refusal.
+/// `commit EDITOR`, the editor's number, 1 to 64.
 pub fn commit_text(alloc: Global, editor: u32) -> Result<String, NoMemory>
     ensures { Spells result (texts.commit_words editor) }
 {
     format!(in alloc; "commit {editor}")
 }
 
-/// What the line of a draw begins with: `draw`.
-///
-/// Out of memory is the only refusal.
+/// `draw`.
 pub fn draw_text(alloc: Global) -> Result<String, NoMemory>
     ensures { Spells result (texts.draw_words) }
 {
     String::from_str(alloc, "draw")
 }
 
-/// What the line of an open begins with: `open READER`, the reader's number, 1 to 64, in decimal.
-///
-/// Out of memory is the only refusal.
+/// `open READER`, the reader's number, 1 to 64.
 pub fn open_text(alloc: Global, reader: u32) -> Result<String, NoMemory>
     ensures { Spells result (texts.open_words reader) }
 {
@@ -48,18 +42,14 @@ pub fn open_text(alloc: Global, reader: u32) -> Result<String, NoMemory>
 
 // ---- the words of a reply
 
-/// The words of a commit that made a generation: `generation NUMBER`, its number in decimal.
-///
-/// Out of memory is the only refusal.
+/// `generation NUMBER`, of a commit that made one.
 pub fn committed_text(alloc: Global, number: u64) -> Result<String, NoMemory>
     ensures { Spells result (texts.committed_words number) }
 {
     format!(in alloc; "generation {number}")
 }
 
-/// The words of a commit that made none: `refused CAUSE`, which is the text of [`refusal_text`].
-///
-/// Out of memory is the only refusal.
+/// `refused CAUSE`, as [`refusal_text`] has it.
 pub fn refused_text(alloc: Global, refusal: &Refusal) -> Result<String, NoMemory>
     ensures { Spells result (texts.refused_words refusal.now) }
 {
@@ -67,10 +57,8 @@ pub fn refused_text(alloc: Global, refusal: &Refusal) -> Result<String, NoMemory
     format!(in alloc; "refused {refusal}")
 }
 
-/// The words of a draw: `GENERATION FIRST COUNT`, the number of the generation, the place in its cycle of the first item that was drawn, from
-/// 0, and how many items were, each in decimal.
-///
-/// Out of memory is the only refusal.
+/// `GENERATION FIRST COUNT` of a draw. FIRST is the first item's place in its cycle, from 0, and
+/// COUNT how many items were drawn.
 pub fn drawn_text(
     alloc: Global,
     generation: u64,
@@ -82,19 +70,15 @@ pub fn drawn_text(
     format!(in alloc; "{generation} {first} {count}")
 }
 
-/// The words of a draw that wasn't made: `refused draws-full DRAWS`, how many were made already, in decimal.
-///
-/// Out of memory is the only refusal.
+/// `refused draws-full DRAWS`, how many draws were made already.
 pub fn draws_full_text(alloc: Global, draws: u64) -> Result<String, NoMemory>
     ensures { Spells result (texts.draws_full_words draws) }
 {
     format!(in alloc; "refused draws-full {draws}")
 }
 
-/// The words of an open, up to what [`put_answer_tail`] puts after them: `LABEL PATH ANSWER`. LABEL is the number, in decimal, of the
-/// generation that the receiver held, or `-` for none; the path is given as its text; ANSWER is the text of [`answer_text`].
-///
-/// Out of memory is the only refusal.
+/// `LABEL PATH ANSWER` of an open: the held generation's number or `-`, the path's text, and
+/// [`answer_text`].
 pub fn opened_text(
     alloc: Global,
     path: &str,
@@ -112,10 +96,8 @@ pub fn opened_text(
 
 // ---- what follows them
 
-/// Puts what follows the words of an open, piece by piece: of a file, after a space, two hexadecimal digits for each byte, with small
-/// letters, or `-` for none; of a folder its names, each after a space, as they stand in a path's text; of any other answer nothing.
-///
-/// `Failed` comes where a write failed, and `NoMemory` where there is none; a prefix of this was written then.
+/// Puts what follows an open's words: after a space a file's bytes in small hexadecimal digits, or
+/// `-` for none, or a folder's names, each after a space.
 pub fn put_answer_tail<O: Output>(
     alloc: Global,
     answer: &Answer,
@@ -130,7 +112,6 @@ pub fn put_answer_tail<O: Output>(
     }
 }
 
-/// Puts a space and a file's bytes.
 fn put_content<O: Output>(alloc: Global, content: &[u8], out: &mut O) -> Result<(), OutputFault>
     ensures { Puts result (O.state out.old) (O.state out.new)
         (32 ∷ texts.content_word content.now) }
@@ -142,7 +123,7 @@ fn put_content<O: Output>(alloc: Global, content: &[u8], out: &mut O) -> Result<
     put_digits(alloc, content, out)
 }
 
-/// Puts two digits for each byte.
+/// Two for each byte.
 fn put_digits<O: Output>(alloc: Global, content: &[u8], out: &mut O) -> Result<(), OutputFault>
     ensures { Puts result (O.state out.old) (O.state out.new) (encode_lower content.now) }
 {
@@ -153,7 +134,7 @@ fn put_digits<O: Output>(alloc: Global, content: &[u8], out: &mut O) -> Result<(
     Ok(())
 }
 
-/// Puts a folder's names, each after a space.
+/// Each after a space.
 fn put_names<O: Output>(alloc: Global, folder: &FolderRef, out: &mut O) -> Result<(), OutputFault>
     ensures { Puts result (O.state out.old) (O.state out.new)
         (flat_map texts.spaced_name folder.now) }

@@ -14,7 +14,7 @@ use std::alloc::Global;
 /// The most bytes of a name in a table.
 pub const MOST_MOUNT_NAME: usize = 32;
 
-/// The names and PIDs of a table: one or more of NAME=PID, with a comma between each two.
+/// One or more of NAME=PID, with commas between.
 pub fn table(alloc: Global, word: &str) -> Result<Vec<(Name, u16)>, WordsFault>
     ensures gives { Gives (λ table. table.items) commands.cause result
         (commands.or_misfit (values.table_in word.now)) }
@@ -28,7 +28,6 @@ pub fn table(alloc: Global, word: &str) -> Result<Vec<(Name, u16)>, WordsFault>
     Ok(table)
 }
 
-/// The name and the PID of an entry.
 fn entry(alloc: Global, text: &str) -> Result<(Name, u16), WordsFault>
     ensures gives { Gives (λ entry. entry) commands.cause result
         (commands.or_misfit (values.entry_in text.now)) }
@@ -41,7 +40,7 @@ fn entry(alloc: Global, text: &str) -> Result<(Name, u16), WordsFault>
     Ok((Name::new(bytes), pid))
 }
 
-/// The text of a name before the first equals sign of an entry, and the PID behind it.
+/// Split at the first equals sign.
 fn parts(text: &str) -> Option<(&str, u16)>
     ensures value { values.entry_in text.now ≡ option_map (λ p. (p.0.now, p.1)) result }
     ensures ranges { IfSome result (λ p. values.IsEntry (p.0.now, p.1)) }
@@ -54,7 +53,7 @@ fn parts(text: &str) -> Option<(&str, u16)>
     Some((name, pid(behind)?))
 }
 
-/// Whether these are 1 to [`MOST_MOUNT_NAME`] lower case letters or digits.
+/// 1 to [`MOST_MOUNT_NAME`] lower case letters or digits.
 fn is_mount_name(name: &[u8]) -> bool
     ensures value { result ≡ values.is_mount_name name.now }
     ensures short { result ≡ true → length name.now ≤ MOST_MOUNT_NAME }

@@ -8,10 +8,8 @@ use path_resolver::Answer;
 use path_tree::{EditFault, Path};
 use std::alloc::Global;
 
-/// The text that stands for an answer, without the path: what it is, and after it, each after a space, a file's length in
-/// bytes, the number of a folder's names, or the module and the place of a fault, in decimal. This project's own texts.
-///
-/// Out of memory is the only refusal.
+/// What an answer is, and after a space each: a file's length in bytes, a folder's number of names,
+/// or a fault's module and place.
 pub fn answer_text(alloc: Global, answer: &Answer) -> Result<String, NoMemory>
     ensures { Spells result (answer_line answer.now) }
 {
@@ -35,9 +33,7 @@ pub fn answer_text(alloc: Global, answer: &Answer) -> Result<String, NoMemory>
     }
 }
 
-/// The line of a path and its answer: the path's text, a space, the answer's text and a line feed. This project's own text.
-///
-/// Out of memory is the only refusal.
+/// A path's text, a space, the answer's text and a line feed.
 pub fn answered_text(alloc: Global, path: &Path, answer: &Answer) -> Result<String, NoMemory>
     ensures { Spells result (answered_line path.now answer.now) }
 {
@@ -49,10 +45,8 @@ pub fn answered_text(alloc: Global, path: &Path, answer: &Answer) -> Result<Stri
     Ok(text)
 }
 
-/// The text that stands for a refusal: why, and after it, each after a space, the number that passes its limit, in decimal,
-/// the place of an edit, from 0, and its fault, or the path of a folder. This project's own texts.
-///
-/// Out of memory is the only refusal.
+/// Why a commit is refused, and after a space each: the number past its limit, an edit's place,
+/// from 0, and its fault, or a folder's path.
 pub fn refusal_text(alloc: Global, refusal: &Refusal) -> Result<String, NoMemory>
     ensures { Spells result (refusal_line refusal.now) }
 {

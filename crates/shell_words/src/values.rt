@@ -12,10 +12,10 @@ use crate::words::WordsFault;
 use path_tree::{Path, PathFault};
 use std::alloc::Global;
 
-/// The greatest PID of a stream; the one above it is that of stuffing (ISO/IEC 13818-1, 2.4.3.3).
+/// The greatest PID of a stream; 8,191 is stuffing's (ISO/IEC 13818-1, 2.4.3.3).
 pub const MOST_PID: u32 = carousel_profile::MOST_PID as u32;
 
-/// The most paths that are watched. This project's own limit.
+/// The most paths that are watched.
 pub const MOST_WATCHED: usize = 1_024;
 
 /// Whether a word begins with `-`.
@@ -81,7 +81,7 @@ fn path(alloc: Global, word: &String) -> Result<Path, WordsFault>
     }
 }
 
-/// The folder that a word names: any but the empty word.
+/// Any word but the empty one.
 pub fn folder(alloc: Global, word: &String) -> Result<String, WordsFault>
     ensures { Gives string_bytes commands.cause result
         (commands.or_misfit (values.folder_in (string_bytes word.now))) }

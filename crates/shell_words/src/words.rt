@@ -6,71 +6,67 @@ use thiserror::Error;
 /// A command with the values of its words.
 #[derive(Drop)]
 pub enum Command {
-    /// `assemble ID VERSION SIZE DOWNLOAD`: one module out of sections. A module's id, 0 to 65,535, its version, 0 to
-    /// 255, its size in bytes, 0 to [`block_assembler::MOST_MODULE_SIZE`], and the id of its download, any 32-bit number.
+    /// `assemble ID VERSION SIZE DOWNLOAD`: a module out of sections. A 16-bit id, an 8-bit
+    /// version, a size in bytes, at most [`block_assembler::MOST_MODULE_SIZE`], and a download's
+    /// 32-bit id.
     Assemble {
         id: u16,
         version: u8,
         size: u32,
         download: u32,
     },
-    /// `open sections PATH..`: the answers to one or more paths, out of sections.
+    /// `open sections PATH..`: answers out of sections.
     OpenSections(Vec<Path>),
-    /// `open PID PATH..`: the answers to one or more paths, out of the packets of a PID, 0 to 8,190.
+    /// `open PID PATH..`: answers out of packets; PIDs are 0 to 8,190.
     Open(u16, Vec<Path>),
-    /// `record PID`: the sections in the packets of a PID, 0 to 8,190.
+    /// `record PID`: the sections in packets.
     Record(u16),
-    /// `list PID`: every path, out of the packets of a PID, 0 to 8,190.
+    /// `list PID`: every path.
     List(u16),
-    /// `publish FOLDER CAROUSEL CYCLES`: the packets of a folder's files and empty folders. The folder's name, of at least one byte, the
-    /// id of the carousel, any 32-bit number, and how many cycles are sent, 1 to 1,000.
+    /// `publish FOLDER CAROUSEL CYCLES`: packets of a folder, named by at least a byte. Any 32-bit
+    /// id, and 1 to 1,000 cycles.
     Publish(String, u32, u32),
-    /// `rehearse`: the events of a script, one after another.
+    /// `rehearse`: a script's events, one after another.
     Rehearse,
-    /// `session`: the events of a script, by many threads.
+    /// `session`: a script's events, by many threads.
     Session,
-    /// `big N`: a session that is made up, of this size, 1 to 16.
+    /// `big N`: a generated session of this size, 1 to 16.
     Big(u32),
-    /// `find CAROUSEL`: the PID of the carousel of this id, any 32-bit number, out of packets.
+    /// `find CAROUSEL`: the PID of the carousel of this id.
     Find(u32),
-    /// `open-id CAROUSEL PATH..`: the answers to one or more paths, out of the packets of the carousel of this id, any 32-bit
-    /// number.
+    /// `open-id CAROUSEL PATH..`: answers from the carousel of this id.
     OpenId(u32, Vec<Path>),
-    /// `publish-psi FOLDER CAROUSEL CYCLES`: the packets of a folder's files and empty folders, and the tables that name the carousel. The values
-    /// are those of `publish`.
+    /// `publish-psi FOLDER CAROUSEL CYCLES`: `publish`, and tables that name the carousel.
     PublishPsi(String, u32, u32),
-    /// `publish-on PID FOLDER CAROUSEL CYCLES`: the packets of a folder's files and empty folders on a PID, 0 to 8,190. The other values are those of
-    /// `publish`.
+    /// `publish-on PID FOLDER CAROUSEL CYCLES`: `publish` on a PID.
     PublishOn(u16, String, u32, u32),
-    /// `mounts TABLE PATH..`: the answers to one or more paths, out of the packets of several carousels. One or more of their names, 1 to
-    /// [`MOST_MOUNT_NAME`](crate::MOST_MOUNT_NAME) lower case letters or digits, each with its PID, 0 to 8,190; the first name of a path is one of
-    /// them. A name or a PID may stand twice here.
+    /// `mounts TABLE PATH..`: answers from several carousels. Names are 1 to
+    /// [`MOST_MOUNT_NAME`](crate::MOST_MOUNT_NAME) lower case letters or digits, and may be here
+    /// twice, as PIDs may.
     Mounts(Vec<(Name, u16)>, Vec<Path>),
-    /// `watch PID PATH..`: what changes in the answers to one or more paths while the packets of a PID, 0 to 8,190, come. There are at most
-    /// [`MOST_WATCHED`](crate::MOST_WATCHED) paths, each as often as it stands among the words.
+    /// `watch PID PATH..`: the changes of at most [`MOST_WATCHED`](crate::MOST_WATCHED) paths'
+    /// answers, repeated ones included.
     Watch(u16, Vec<Path>),
-    /// `plan FOLDER CAROUSEL BITRATE`: what `publish` would send of a folder. The folder's name and the id of the carousel are those of
-    /// `publish`; the rate is 1 to 4,294,967,295 bits a second.
+    /// `plan FOLDER CAROUSEL BITRATE`: what `publish` would send, at 1 to 4,294,967,295 bits a
+    /// second.
     Plan(String, u32, u32),
-    /// `inspect PID`: what a receiver holds and passed over of the packets of a PID, 0 to 8,190.
+    /// `inspect PID`: what a receiver holds and passed over.
     Inspect(u16),
-    /// `extract PID FOLDER`: the files that the packets of a PID, 0 to 8,190, bring, into a folder that is made. Its name has at
-    /// least one byte.
+    /// `extract PID FOLDER`: files into a new folder, named by at least a byte.
     Extract(u16, String),
-    /// `air PID FOLDER CAROUSEL CYCLES`: a folder that stays on the air, on a PID, 0 to 8,190. The folder's name has at least one byte, the
-    /// carousel's id is any 32-bit number, and 1 to 4,294,967,295 cycles are sent.
+    /// `air PID FOLDER CAROUSEL CYCLES`: a folder on the air, for 1 to 4,294,967,295 cycles.
     Air(u16, String, u32, u32),
-    /// `why WORDS..`: what is wrong with other words, if anything is.
+    /// `why WORDS..`: what is wrong with other words.
     Why(Complaint),
 }
 
-/// Why no command is given.
+/// Why there is no command.
 #[derive(Clone, Copy, Debug, PartialEq, Eq, Error)]
 pub enum WordsFault {
-    /// The words name no command, or their number or one of their values doesn't fit the command that they name.
+    /// The words fit no command.
     #[error("the words are no command with its values")]
     Words,
-    /// No memory was found.
+    /// Memory ran out.
     #[error("out of memory")]
     NoMemory,
 }

@@ -11,22 +11,22 @@ use generation_catalogue::{Batch, CommitFault, DrawFault, Entry, Journal};
 use history_lock::Chronicled;
 use path_tree::{Edit, Edits};
 
-/// What the list of a kept catalogue is made of: the setting first, and then the entries. It exists in proofs alone; no
-/// value of it is made.
+/// An element of the list that a kept catalogue stands for, the setting first. It exists in proofs
+/// alone.
 #[derive(Drop)]
 pub enum KeptItem {
     /// What the catalogue was made with, which all passes have seen.
     Setting {
-        /// The carousel, any 32-bit id.
+        /// Any 32-bit id.
         carousel: u32,
-        /// The weights of its modules, from module 1 on.
+        /// From module 1 on.
         weights: [u8; GREATEST_ID],
     },
     /// One entry of the catalogue.
     Entry(Entry),
 }
 
-/// The catalogue of a station, as its lock keeps it: its history, without the closure of its weights.
+/// A station's catalogue without the closure of its weights, as a lock keeps it.
 #[derive(Drop)]
 pub struct Kept {
     pub(crate) journal: Journal,
@@ -41,7 +41,6 @@ impl Chronicled for Kept {
 }
 
 impl Kept {
-    /// The catalogue's commit, with what its entries are until then.
     pub fn commit(&mut self, editor: u32, edits: Vec<Edit>) -> Result<u64, CommitFault>
         ensures history { IsHistory self.old.journal }
         ensures call { IsCommitted self.old.journal editor edits.items result self.new.journal }
@@ -50,10 +49,12 @@ impl Kept {
         self.journal.commit_edits(editor, Edits::new(edits))
     }
 
-    /// The catalogue's draw, with what its entries are until then. The weights have to be the catalogue's.
+    /// The weights have to be the catalogue's.
     pub fn draw(&mut self, weigh: &Weigh, n: u32) -> Result<Batch, DrawFault>
+        // What is known of the weights and the count:
         requires count { (1 ≤ n) × (n ≤ MOST_DRAWN) }
         requires weights { weigh.now.weights ≡ self.old.journal.weights }
+        // What is drawn:
         ensures history { IsHistory self.old.journal }
         ensures call { IsDrawn self.old.journal n result self.new.journal }
         ensures some { IfOk result (λ b. (1 ≤ length b.items.items) × (length b.items.items ≤ n)) }

@@ -1,14 +1,10 @@
-//! One catalogue of a carousel, shared by editors who commit and a feeder who draws, from threads of their own.
+//! One catalogue of a carousel, shared by editors who commit and a feeder who draws, on their own
+//! threads.
 //!
-//! A station is made with a pass for each editor and one for the feeder. Each call is made on the catalogue in one hold of
-//! its lock, so all calls stand in one history: each finds the entries that its pass has seen, and perhaps later ones, and
-//! leaves the pass with all entries up to its own. Once all passes are back, `Station::close` gives the catalogue, in
-//! which each entry is one pass's own.
+//! Each call takes the catalogue in one hold, so all calls are in one history. Afterwards its pass
+//! has seen all entries up to its own. Nothing is promised about when a call gets its hold.
 //!
-//! Whatever the catalogue refuses the station refuses, with the same answer. That a call ever gets its hold, and in which
-//! order, is not said.
-//!
-//! An editor commits an empty list of edits, and the feeder draws three items of the generation that comes of it:
+//! An editor commits no edits, and the feeder draws three items:
 //!
 //! ```
 //! ghost use Rattle.std.specs.Prelude.{◌≡◌};

@@ -20,11 +20,11 @@ use path_tree::Edit;
 use std::alloc::Global;
 use std::sync::Wait;
 
-/// The right to call a station. It knows the entries that it has seen, and the places of its own entries among them,
-/// counted from 0.
+/// The right to call a station. It knows the entries that it has seen, and the places of its own
+/// among them, from 0.
 pub type Pass = history_lock::Pass<Kept>;
 
-/// A shared catalogue: its history under a lock, and what answers its weights beside it, which all calls share.
+/// A catalogue under a lock, and what answers its weights.
 #[derive(Drop)]
 pub struct Station {
     lock: HistoryLock<Kept>,
@@ -38,9 +38,8 @@ impl Station {
     ghost use Rattle.station.specs.Passes.{IsStationPass, AreNewPasses, AreAllPasses, carousel_of, weights_of, pass_count, entries_seen, seen_by, owners_of};
     ghost use Rattle.station.specs.Calls.{InOneHold, IfAnswered, IfFull, EndsWith};
 
-    /// A station of a carousel, any 32-bit id, whose modules are sent as often as they weigh, and a pass for each of the editors,
-    /// at most 64, and one for the feeder, which is the last. They are numbered from 0 on, in order; each has seen no entry and has
-    /// none of its own. Out of memory is the only refusal.
+    /// A station of a carousel, any 32-bit id. The passes, numbered from 0, are the editors', at
+    /// most 64, and last the feeder's.
     pub fn new(
         alloc: Global,
         editors: u32,
@@ -48,8 +47,10 @@ impl Station {
         weigh: Weigh,
     ) -> Result<(Station, Vec<Pass>), NoMemory>
         requires { editors ≤ 64 }
+        // The station:
         ensures carousel { IfOk result (λ made. carousel_of made.0 ≡ carousel) }
         ensures weights { IfOk result (λ made. weights_of made.0 ≡ weigh.weights) }
+        // The passes:
         ensures count { IfOk result (λ made. pass_count made.0 ≡ editors + 1) }
         ensures all { IfOk result (λ made. length made.1.items ≡ editors + 1) }
         ensures passes { IfOk result (λ made. AreNewPasses made.0 0 made.1.items) }
@@ -62,18 +63,19 @@ impl Station {
         }
     }
 
-    /// `Catalogue::commit` in one hold, with the pass's number as the editor, on a catalogue whose entries begin with those
-    /// that the pass had seen. An answer that makes an entry stands at the end of what the pass has seen then, as its own.
-    /// That the season or the journal is full makes none, and is true of the entries that the pass has seen then.
+    /// `Catalogue::commit` in one hold, with the pass's number as the editor. What the pass has
+    /// seen then ends with the entry. If season or journal is full, there is none.
     pub fn commit<R: Wait>(
         &self,
         rt: &R,
         pass: &mut Pass,
         edits: Vec<Edit>,
     ) -> Result<u64, CommitFault>
+        // Whose call it is:
         requires { IsStationPass self.now pass.old }
         ensures pass { IsStationPass self.now pass.new }
         ensures number { number_of pass.new ≡ number_of pass.old }
+        // What is answered, and then seen:
         ensures call { InOneHold (carousel_of self.now) (weights_of self.now) pass.old pass.new
             (λ c d. IsCommitted c (number_of pass.old) edits.items result d) }
         ensures entered { IfAnswered result (λ outcome.
@@ -91,14 +93,15 @@ impl Station {
         answer
     }
 
-    /// `Catalogue::draw` in one hold, on a catalogue whose entries begin with those that the pass had seen; `n` is 1 to
-    /// [`cycle_planner::MOST_DRAWN`]. The draw stands at the end of what the pass has seen then, as its own. That the draws are full makes no
-    /// entry, and is true of the entries that the pass has seen then.
+    /// `Catalogue::draw` in one hold; `n` is 1 to [`cycle_planner::MOST_DRAWN`]. What the pass has
+    /// seen then ends with the draw, unless the draws are full.
     pub fn draw<R: Wait>(&self, rt: &R, pass: &mut Pass, n: u32) -> Result<Batch, DrawFault>
+        // Whose call it is:
         requires pass { IsStationPass self.now pass.old }
         requires count { (1 ≤ n) × (n ≤ MOST_DRAWN) }
         ensures pass { IsStationPass self.now pass.new }
         ensures number { number_of pass.new ≡ number_of pass.old }
+        // What is answered, and then seen:
         ensures call { InOneHold (carousel_of self.now) (weights_of self.now) pass.old pass.new
             (λ c d. IsDrawn c n result d) }
         ensures entered { IfOk result (λ b.
@@ -106,6 +109,7 @@ impl Station {
             (entries.Draw n (arc_value b.generation).number b.first (length b.items.items))) }
         ensures full { IfFull result (λ draws.
             (draws ≡ MOST_DRAWS) × (MOST_DRAWS ≤ draws_of (seen_by self.now pass.new))) }
+        // What is drawn:
         ensures some { IfOk result (λ b. (1 ≤ length b.items.items) × (length b.items.items ≤ n)) }
         ensures items { IfOk result (λ b. AreItemsOf (arc_value b.generation) b.items.items) }
     {
@@ -115,8 +119,7 @@ impl Station {
         answer
     }
 
-    /// Takes the catalogue out, against all passes of this station. It has the station's carousel and weights; its entries begin
-    /// with those that each pass has seen, and each of them is one pass's own. It takes no memory.
+    /// Takes the catalogue out, against all passes of this station. Takes no memory.
     pub fn close(self, passes: Vec<Pass>) -> Catalogue
         requires { AreAllPasses self passes.items }
         ensures carousel { (state result).carousel ≡ carousel_of self }

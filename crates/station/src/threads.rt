@@ -4,7 +4,7 @@ fn is_shared<T: Send + Sync>(_value: &T) {}
 
 fn is_sent<T: Send>() {}
 
-/// A station can be shared by threads, and its passes can go to them and come back. Does nothing.
+/// A station can be shared by threads, and passes can go to them and back. Does nothing.
 pub fn cross_threads(station: &Station) {
     is_shared(station);
     is_sent::<Pass>();
