@@ -1,4 +1,5 @@
-//! The program: it runs the command that its words name on standard input, standard output and the system's folders.
+//! The program: it runs the command that its words name on standard input, standard output and the
+//! system's folders.
 #![tactic(auto)]
 
 ghost use Rattle.std.specs.Prelude.{◌≡◌, ◌==◌, [], if◌then◌else◌};
@@ -70,7 +71,8 @@ impl Notices for ErrorLines<'_> {
     }
 }
 
-/// Runs the command that the words name. Module 1, in which the root lies, is sent twice a cycle, and every other module once.
+/// Runs the command that the words name. Module 1, in which the root lies, is sent twice a cycle,
+/// and every other module once.
 fn run<R: Threads + Wait + Sync, S: Source, K: Sink, F: Folders, T: Store, N: Notices>(
     rt: &R,
     alloc: Global,

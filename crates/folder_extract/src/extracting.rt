@@ -26,28 +26,32 @@ use std::alloc::Global;
 /// How an extraction ended, where neither the output failed nor memory was wanting.
 #[derive(Clone, Copy, Debug, PartialEq, Eq)]
 pub enum Extracted {
-    /// All paths of the listing are files and folders and were written, and each name of the folders is one of a path.
+    /// All paths of the listing are files and folders and were written, and each name of the
+    /// folders is one of a path.
     All,
     /// The others were written; each that wasn't has its line.
     NotAll,
-    /// The store failed at a path. What stands before it in the listing was written or has its line, and what stands after it wasn't
-    /// looked at.
+    /// The store failed at a path. What stands before it in the listing was written or has its
+    /// line, and what stands after it wasn't looked at.
     Failed,
 }
 
-/// Writes each file and folder of a shot into the folder `folder`, which is made with them. The paths are those of a listing,
-/// [`listed_paths`], in its order, and of each a line is put once it is written: `folder PATH COUNT`, where COUNT is the number of the folder's
-/// names, or `file PATH LENGTH`, in bytes. Where no file or folder is answered the line is that of the answer,
+/// Writes each file and folder of a shot into the folder `folder`, which is made with them. The
+/// paths are those of a listing, [`listed_paths`], in its order, and of each a line is put once it
+/// is written: `folder PATH COUNT`, where COUNT is the number of the folder's names, or `file PATH
+/// LENGTH`, in bytes. Where no file or folder is answered the line is that of the answer,
 /// [`answered_text`](shell_words::answered_text).
 ///
-/// A name that can't be that of a file gives the line `passed PATH`, and nothing below it is written or told: `.`, `..`, one that
-/// isn't UTF-8, and [`PART_NAME`](folder_store::PART_NAME). So does, right after the line of its folder, each binding of a name that no
-/// path can have: an empty one, one of more than 254 bytes, or one with a zero byte or a `/`. After
+/// A name that can't be that of a file gives the line `passed PATH`, and nothing below it is
+/// written or told: `.`, `..`, one that isn't UTF-8, and [`PART_NAME`](folder_store::PART_NAME).
+/// So does, right after the line of its folder, each binding of a name that no path can have: an
+/// empty one, one of more than 254 bytes, or one with a zero byte or a `/`. After
 /// [`MOST_LISTED`](path_listing::MOST_LISTED) paths the line `more` stands where there are others.
 ///
-/// Nothing that stands is written over: where something stands at `folder`, the store fails at the first path. After a fault of the
-/// store the lines so far are written. After one of the output, or without memory, a part of the files and folders was written, each
-/// file whole, and a part of the lines. These rules are this project's own.
+/// Nothing that stands is written over: where something stands at `folder`, the store fails at the
+/// first path. After a fault of the store the lines so far are written. After one of the output,
+/// or without memory, a part of the files and folders was written, each file whole, and a part of
+/// the lines.
 pub fn extract<T: Store, O: Output>(
     alloc: Global,
     shot: &Shot,

@@ -14,8 +14,8 @@ use path_tree::Path;
 use std::alloc::Global;
 use std::str;
 
-/// The path text of a path of a carousel below a folder of the outside; none, where a name in it can't be that of a file: `.`, `..`,
-/// one that isn't UTF-8, or [`PART_NAME`].
+/// The path text of a path of a carousel below a folder of the outside; none, where a name in it
+/// can't be that of a file: `.`, `..`, one that isn't UTF-8, or [`PART_NAME`].
 pub(crate) fn place_text(
     alloc: Global,
     folder: &str,
@@ -74,7 +74,8 @@ fn holds_zero_or_slash(name: &[u8]) -> bool
     name.iter().any(|byte| *byte == 0 || *byte == b'/')
 }
 
-/// Whether a name is that of the folder itself or of the one above, or the one under which a file is written.
+/// Whether a name is that of the folder itself or of the one above, or the one under which a file
+/// is written.
 fn is_taken(name: &str) -> bool
     ensures { result ≡ taken name.now }
 {

@@ -12,8 +12,8 @@ use generation_catalogue::{CommitFault, MOST_PUT_BYTES, Refusal};
 use path_tree::{Edit, Tree, apply};
 use std::alloc::Global;
 
-/// The tree that these edits make of the one in which nothing stands, where a commit of them on a new carousel is accepted; else the commit's
-/// refusal.
+/// The tree that these edits make of the one in which nothing stands, where a commit of them on a
+/// new carousel is accepted; else the commit's refusal.
 pub(crate) fn judge(alloc: Global, edits: &[Edit]) -> Result<Publishable, CommitFault>
     ensures accepted { IfOk result (IsAccepted edits.now) }
     ensures refused { IfErr result (λ f.

@@ -1,5 +1,5 @@
-//! What publishing a folder would send: each file and folder with its module, each module with its blocks, the cycle, and what is passed
-//! over; or why the folder can't be published.
+//! What publishing a folder would send: each file and folder with its module, each module with its
+//! blocks, the cycle, and what is passed over; or why the folder can't be published.
 #![tactic(auto)]
 
 mod counting;

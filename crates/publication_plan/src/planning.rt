@@ -43,21 +43,26 @@ struct Told {
 
 /// Writes what publishing a folder would send: what is read, and how, is what `publish` reads.
 ///
-/// Where the folder can be published these are the lines, of generation 1 of the carousel: `folder PATH COUNT module M` and
-/// `file PATH LENGTH module M` for each object in the order of paths, the root first, with the number of a folder's names or a file's length
-/// in bytes and with the module that it lies in, and in that order `left PATH` for each link and each entry of another kind, which is
-/// passed over; ` hidden` stands behind each of these lines where a name on the path begins with a dot. Then
-/// `module M size S blocks B weight W` by rising id, with its bytes, its blocks and how often it is sent in a cycle, and
-/// `cycle sections N packets P bytes Q milliseconds T`: a cycle's sections, the packets that it takes where it is sent alone, their bytes, and how
-/// long these take at `bitrate` bits a second, rounded up.
+/// Where the folder can be published these are the lines, of generation 1 of the carousel: `folder
+/// PATH COUNT module M` and `file PATH LENGTH module M` for each object in the order of paths, the
+/// root first, with the number of a folder's names or a file's length in bytes and with the module
+/// that it lies in, and in that order `left PATH` for each link and each entry of another kind,
+/// which is passed over; ` hidden` stands behind each of these lines where a name on the path
+/// begins with a dot. Then `module M size S blocks B weight W` by rising id, with its bytes, its
+/// blocks and how often it is sent in a cycle, and `cycle sections N packets P bytes Q
+/// milliseconds T`: a cycle's sections, the packets that it takes where it is sent alone, their
+/// bytes, and how long these take at `bitrate` bits a second, rounded up.
 ///
-/// Where the folder can't be published the one line is `refused CAUSE` with the path, the size and the limit where there are any, and where a
-/// file or a folder can't be read it is `unreadable PATH` with the path of that file or folder, `/` for `folder` itself. The size of a file
-/// that is too large is counted up to [`MOST_SIZED`](crate::MOST_SIZED).
+/// Where the folder can't be published the one line is `refused CAUSE` with the path, the size and
+/// the limit where there are any, and where a file or a folder can't be read it is `unreadable
+/// PATH` with the path of that file or folder, `/` for `folder` itself. The size of a file that is
+/// too large is counted up to [`MOST_SIZED`](crate::MOST_SIZED).
 ///
-/// `folder` is a path text of the folders, `carousel` the carousel's id, any 32-bit number, `bitrate` is at least 1, and `weigh` says how often
-/// each module is sent in a cycle. Nothing may be pending in the output when it is called. After a fault of the output, or out of
-/// memory, nothing or a front of one of these texts was written. These rules and texts are this project's own.
+/// `folder` is a path text of the folders, `carousel` the carousel's id, any 32-bit number,
+/// `bitrate` is at least 1, and `weigh` says how often each module is sent in a cycle. Nothing may
+/// be pending in the output when it is called. After a fault of the output, or out of memory,
+/// nothing or a front of one of these texts was written. These rules and texts are this project's
+/// own.
 pub fn plan<O: Output, F: Folders>(
     alloc: Global,
     folder: &str,

@@ -120,7 +120,8 @@ pub(crate) fn limit_in(refusal: &Refusal) -> Option<u64>
     }
 }
 
-/// The size that passes the limit, where the cause doesn't tell it: that of a file is read again, and counted up to [`MOST_SIZED`].
+/// The size that passes the limit, where the cause doesn't tell it: that of a file is read again,
+/// and counted up to [`MOST_SIZED`].
 pub(crate) fn size_of<F: Folders>(
     alloc: Global,
     folders: &mut F,
@@ -168,7 +169,8 @@ fn file_size<F: Folders>(
     }
 }
 
-/// How many bytes the object has of the first folder that is too large in the tree that these edits make.
+/// How many bytes the object has of the first folder that is too large in the tree that these
+/// edits make.
 fn folder_size(alloc: Global, edits: &[Edit]) -> Result<Option<u64>, NoMemory>
     ensures { IfOk result (λ n. n ≡ size_in (apply_all [] edits.now)) }
 {

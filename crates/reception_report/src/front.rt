@@ -8,7 +8,8 @@ use carousel_profile::PACKET_LENGTH;
 use oc_bytes::NoMemory;
 use std::alloc::Global;
 
-/// The most packets that are kept: in their 4,512 bytes stand 23 packets of 192 bytes, and 22 of 204.
+/// The most packets that are kept: in their 4,512 bytes stand 23 packets of 192 bytes, and 22 of
+/// 204.
 const MOST_PACKETS: usize = 24;
 
 /// The first packets of an input, as they came.

@@ -79,7 +79,8 @@ fn missing_text(alloc: Global, stored: &Stored) -> Result<String, NoMemory>
     Ok(text)
 }
 
-/// Goes on by one block: where one that is missing begins a run, or one that is there ends it, which is added then.
+/// Goes on by one block: where one that is missing begins a run, or one that is there ends it,
+/// which is added then.
 fn step(
     alloc: Global,
     text: &mut String,

@@ -20,15 +20,18 @@ use std::alloc::Global;
 pub struct Reception {
     /// What was counted of the packets, and of a last piece that is none.
     pub counts: Counts,
-    /// Where the sync byte stands, where more than half of the packets lack it, or less than one packet came.
+    /// Where the sync byte stands, where more than half of the packets lack it, or less than one
+    /// packet came.
     pub sync: Option<SyncPlace>,
     pub(crate) follower: Follower,
 }
 
-/// Hears all packets of the source, whatever their PIDs, and the sections of the PID `pid`, 0 to 8,191, in them.
+/// Hears all packets of the source, whatever their PIDs, and the sections of the PID `pid`, 0 to
+/// 8,191, in them.
 ///
-/// `TooLong` comes exactly where [`MOST_PACKETS`](shell_streams::MOST_PACKETS) packets were taken and at least a byte more is read, `Failed` where the source
-/// fails, and `NoMemory` where there is no memory.
+/// `TooLong` comes exactly where [`MOST_PACKETS`](shell_streams::MOST_PACKETS) packets were taken
+/// and at least a byte more is read, `Failed` where the source fails, and `NoMemory` where there
+/// is no memory.
 pub fn receive_packets<S: Source>(
     alloc: Global,
     pid: u16,

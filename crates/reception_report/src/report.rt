@@ -26,10 +26,12 @@ use path_tree::Path;
 use shell_streams::{Output, OutputFault};
 use std::alloc::Global;
 
-/// Writes what a receiver holds and passed over: a line of counts, one of what became of the candidates, the gateway, each held DII in the
-/// order in which they were heard, the label, the modules that they list by rising id, and each path from the root on with the module in
-/// which its object lies or from which it is to come. Of the paths at most [`MOST_LISTED`](path_listing::MOST_LISTED) lines are written, and
-/// then `more` where there are others. The lines are this project's own.
+/// Writes what a receiver holds and passed over: a line of counts, one of what became of the
+/// candidates, the gateway, each held DII in the order in which they were heard, the label, the
+/// modules that they list by rising id, and each path from the root on with the module in which
+/// its object lies or from which it is to come. Of the paths at most
+/// [`MOST_LISTED`](path_listing::MOST_LISTED) lines are written, and then `more` where there are
+/// others.
 pub fn write_report<O: Output>(
     alloc: Global,
     reception: &Reception,

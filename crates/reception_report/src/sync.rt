@@ -20,8 +20,8 @@ pub enum SyncPlace {
     Nowhere,
 }
 
-/// Where the sync byte stands in the front of an input: at the least place of each stretch of 188 bytes, or else of 192, or else of 204.
-/// There have to be two whole stretches at least. These rules are this project's own.
+/// Where the sync byte stands in the front of an input: at the least place of each stretch of 188
+/// bytes, or else of 192, or else of 204. There have to be two whole stretches at least.
 pub fn sync_of(front: &[u8]) -> SyncPlace
     ensures { result ≡ sync.sync_of front.now }
 {
@@ -68,7 +68,8 @@ fn stands_at(distance: usize, front: &[u8], place: usize) -> bool
     true
 }
 
-/// What is said of an input that isn't one of packets, without a line feed. This project's own text; out of memory is the only refusal.
+/// What is said of an input that isn't one of packets, without a line feed. This project's own
+/// text; out of memory is the only refusal.
 pub fn sync_text(alloc: Global, place: SyncPlace) -> Result<String, NoMemory>
     ensures { Spells result (sync.sync_line place) }
 {

@@ -19,7 +19,8 @@ use std::collections::BTreeMap;
 pub enum Happening {
     /// This editor commits these edits.
     Commit(u32, Vec<Edit>),
-    /// So many items are drawn, 1 to [`cycle_planner::MOST_DRAWN`], and their packets meet these fates.
+    /// So many items are drawn, 1 to [`cycle_planner::MOST_DRAWN`], and their packets meet these
+    /// fates.
     Draw(u32, Vec<Fate>),
     /// This reader opens this path.
     Open(u32, Path),
@@ -43,8 +44,8 @@ impl Happening {
     }
 }
 
-/// Reads tasks one after another, and says what happens at each. An edit waits until its editor commits; edits that no commit follows are
-/// given up.
+/// Reads tasks one after another, and says what happens at each. An edit waits until its editor
+/// commits; edits that no commit follows are given up.
 #[derive(Drop)]
 pub struct Interpreter {
     alloc: Global,
@@ -63,8 +64,9 @@ impl Interpreter {
         }
     }
 
-    /// Reads one task more, and gives what happens at it: nothing at an edit, which waits from then on. A commit takes all edits of its
-    /// editor that wait, in written order. The task's numbers are within their ranges.
+    /// Reads one task more, and gives what happens at it: nothing at an edit, which waits from
+    /// then on. A commit takes all edits of its editor that wait, in written order. The task's
+    /// numbers are within their ranges.
     ///
     /// Out of memory is the only refusal; the interpreter is of no use then.
     pub fn read(&mut self, task: Task) -> Result<Option<Happening>, NoMemory>
@@ -94,7 +96,8 @@ impl Interpreter {
         Ok(None)
     }
 
-    /// An edit of the editor waits after its others. After out of memory, which is the only refusal, they are given up.
+    /// An edit of the editor waits after its others. After out of memory, which is the only
+    /// refusal, they are given up.
     fn add(&mut self, editor: u32, edit: Edit) -> Result<(), NoMemory>
         ensures { OnOk result ((p : Pending)
             → Holds self.old p
@@ -115,7 +118,8 @@ impl Interpreter {
     }
 }
 
-/// A file of `size` bytes, at most 16,777,217, of which byte i is `from` + 7i + i/256 modulo 256, the quotient rounded down.
+/// A file of `size` bytes, at most 16,777,217, of which byte i is `from` + 7i + i/256 modulo 256,
+/// the quotient rounded down.
 ///
 /// Out of memory is the only refusal.
 fn filled(alloc: Global, size: u32, from: u8) -> Result<Blob, NoMemory>

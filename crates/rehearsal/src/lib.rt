@@ -1,5 +1,5 @@
-//! Rehearsals: the events of a script happen in one world, in written order, and a report tells of each what came of it. The
-//! language of scripts and the report are this project's own.
+//! Rehearsals: the events of a script happen in one world, in written order, and a report tells of
+//! each what came of it. The language of scripts and the report are this project's own.
 //!
 //! ```
 //! ghost use Rattle.std.specs.Prelude.{◌≡◌};

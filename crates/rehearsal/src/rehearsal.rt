@@ -17,12 +17,14 @@ use session_script::{Finale, Parts, Task, TaskLine};
 use shell_streams::{Output, OutputFault};
 use std::alloc::Global;
 
-/// Runs a script in one world of carousel 1, each of whose modules is sent as often a cycle as it weighs: each line's events happen when
-/// the line is met, and after each event its line of the report is put. `settle` is two draws of [`cycle_planner::MOST_DRAWN`] sections
-/// all of whose packets arrive. Edits that no commit line of their editor follows are given up.
+/// Runs a script in one world of carousel 1, each of whose modules is sent as often a cycle as it
+/// weighs: each line's events happen when the line is met, and after each event its line of the
+/// report is put. `settle` is two draws of [`cycle_planner::MOST_DRAWN`] sections all of whose
+/// packets arrive. Edits that no commit line of their editor follows are given up.
 ///
-/// The script's numbers are within their ranges, as those of each script that `session_script::read_parts` gives. After `Failed` and
-/// `NoMemory` some of the events happened, and a prefix of their report was written.
+/// The script's numbers are within their ranges, as those of each script that
+/// `session_script::read_parts` gives. After `Failed` and `NoMemory` some of the events happened,
+/// and a prefix of their report was written.
 pub fn rehearse<O: Output>(
     alloc: Global,
     parts: Parts,

@@ -14,8 +14,8 @@ use shell_words::{
 };
 use std::alloc::Global;
 
-/// Puts a line for each event with its reply, in order, and writes what is pending. After `Failed` and `NoMemory` a prefix of these
-/// lines was written.
+/// Puts a line for each event with its reply, in order, and writes what is pending. After `Failed`
+/// and `NoMemory` a prefix of these lines was written.
 pub fn put_report<O: Output>(
     alloc: Global,
     told: &[(Event, Reply)],
@@ -40,7 +40,8 @@ fn put_told<O: Output>(alloc: Global, told: &(Event, Reply), out: &mut O) -> Res
     put_line(alloc, &subject, &told.1, out)
 }
 
-/// What the line of an event says of the event. It is taken before the event happens, which uses the event up.
+/// What the line of an event says of the event. It is taken before the event happens, which uses
+/// the event up.
 #[derive(Drop)]
 pub(crate) struct Subject {
     /// The words that the line begins with.
@@ -69,7 +70,8 @@ impl Subject {
     }
 }
 
-/// Puts the line of an event and its reply. A file's digits and a folder's names are put piece by piece.
+/// Puts the line of an event and its reply. A file's digits and a folder's names are put piece by
+/// piece.
 pub(crate) fn put_line<O: Output>(
     alloc: Global,
     subject: &Subject,

@@ -15,7 +15,8 @@ use std::alloc::Global;
 pub enum Carrier {
     /// Back to back, of which at most so many are taken.
     Sections(u32),
-    /// In the packets of a PID, 0 to 8,191, of which at most [`MOST_PACKETS`](crate::MOST_PACKETS) are taken.
+    /// In the packets of a PID, 0 to 8,191, of which at most [`MOST_PACKETS`](crate::MOST_PACKETS)
+    /// are taken.
     Packets(u16),
 }
 

@@ -26,11 +26,12 @@ pub trait PacketListener {
             → heard start self.new (packets ++ packet.now ∷ [])) };
 }
 
-/// Lets a listener that heard nothing hear all packets of the source, whatever their PIDs. A last piece of fewer than 188 bytes is
-/// passed over.
+/// Lets a listener that heard nothing hear all packets of the source, whatever their PIDs. A last
+/// piece of fewer than 188 bytes is passed over.
 ///
-/// `TooLong` comes exactly where [`MOST_PACKETS`](crate::MOST_PACKETS) packets were taken and at least a byte more is read, `Failed` where the source fails, and
-/// `NoMemory` where there is no memory.
+/// `TooLong` comes exactly where [`MOST_PACKETS`](crate::MOST_PACKETS) packets were taken and at
+/// least a byte more is read, `Failed` where the source fails, and `NoMemory` where there is no
+/// memory.
 pub fn hear_all_packets<S: Source, L: PacketListener>(
     alloc: Global,
     source: &mut S,

@@ -43,8 +43,9 @@ impl From<AllocError> for OutputFault {
     }
 }
 
-/// Where output goes: what is put is written in large pieces, and what isn't written yet is pending. No call tries a write
-/// after one that failed, where none had failed before. This trait is this project's own.
+/// Where output goes: what is put is written in large pieces, and what isn't written yet is
+/// pending. No call tries a write after one that failed, where none had failed before. This trait
+/// is this project's own.
 pub trait Output {
     ghost use Rattle.shell_streams.specs.Sending.{OutputState};
 

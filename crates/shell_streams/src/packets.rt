@@ -45,12 +45,14 @@ impl PacketReader {
         self.unread.held().len() >= PACKET_LENGTH && self.most > 0
     }
 
-    /// Takes the next packet, and gives the sections that it completes, in order; `None` where the input has ended. A last
-    /// piece of fewer than 188 bytes is counted and passed over.
+    /// Takes the next packet, and gives the sections that it completes, in order; `None` where the
+    /// input has ended. A last piece of fewer than 188 bytes is counted and passed over.
     ///
-    /// `TooLong` comes exactly where [`MOST_PACKETS`] packets were taken and at least a byte more is read, `Failed` where
-    /// the source fails, and `NoMemory` where the sections find no memory. Where the next packet is ready `NoMemory` alone can come.
+    /// `TooLong` comes exactly where [`MOST_PACKETS`] packets were taken and at least a byte more
+    /// is read, `Failed` where the source fails, and `NoMemory` where the sections find no memory.
+    /// Where the next packet is ready `NoMemory` alone can come.
     pub fn next<S: Source>(&mut self, source: &mut S) -> Result<Option<Vec<Vec<u8>>>, InputFault>
+        // What is answered:
         ensures next { IfOk result (λ out.
             IfSome out (λ out.
             (pid : ℕ) (start : Option Bytes) (cs : List Bytes)
@@ -61,6 +63,7 @@ impl PacketReader {
             → (pid : ℕ) (start : Option Bytes) (cs : List Bytes)
             → HasCut pid self.old start (S.left source.old) cs
             → Known start (S.left source.new) (HasEnded pid cs) }
+        // When a fault comes:
         ensures stopped { IfErr result (λ s.
             (pid : ℕ) (start : Option Bytes) (cs : List Bytes)
             → HasCut pid self.old start (S.left source.old) cs
@@ -93,12 +96,14 @@ pub fn has_next<S: Source>(
     most: u32,
     source: &mut S,
 ) -> Result<bool, InputFault>
+    // What is answered:
     ensures next { result ≡ Ok true → (PACKET_LENGTH ≤ length unread.new) × (0 < most) }
     ensures rest { LosesNothing unread.old (S.left source.old) unread.new (S.left source.new) }
     ensures ended { result ≡ Ok false
         → (start : Option Bytes) (packets : List Bytes)
         → HasTaken packets most start (onto_left unread.old (S.left source.old))
         → Known start (S.left source.new) (AreAllTaken packets) }
+    // When a fault comes:
     ensures stopped { IfErr result (λ s.
         (start : Option Bytes) (packets : List Bytes)
         → HasTaken packets most start (onto_left unread.old (S.left source.old))
@@ -120,10 +125,12 @@ pub fn has_next<S: Source>(
 
 /// Reads until a whole packet is held, and says whether there is one.
 fn has_packet<S: Source>(unread: &mut Unread, source: &mut S) -> Result<bool, Failed>
+    // What is answered:
     ensures whole { IfOk result (λ whole. IsTrue whole ↔ (PACKET_LENGTH ≤ length unread.new)) }
     ensures ended { result ≡ Ok false → IsDry (S.left source.new) }
     ensures short { OnErr result (length unread.new < PACKET_LENGTH) }
     ensures needed { OnErr result (length unread.old < PACKET_LENGTH) }
+    // What is left of the source:
     ensures rest { LosesNothing unread.old (S.left source.old) unread.new (S.left source.new) }
     ensures later { S.faults source.old ≤ S.faults source.new }
     ensures cause { OnErr result (Faulted S.faults source.old source.new) }

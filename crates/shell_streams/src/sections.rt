@@ -9,7 +9,8 @@ ghost use Rattle.shell_streams.specs.declared.unread.TheConstants.{MOST_HELD};
 use crate::unread::Unread;
 use oc_bytes::{Failed, Source, length_field};
 
-/// The length of the section at the front of the bytes, its three first bytes included, where it is whole there.
+/// The length of the section at the front of the bytes, its three first bytes included, where it
+/// is whole there.
 fn section_len(bytes: &[u8]) -> Option<usize>
     ensures len { result ≡ prefix_length bytes.now }
     ensures short { result ≡ None → length bytes.now < MOST_HELD }
@@ -39,12 +40,14 @@ pub fn next_section<S: Source>(unread: &mut Unread, source: &mut S) -> Result<Op
 
 /// Whether at least one byte more is there.
 pub fn goes_on<S: Source>(unread: &mut Unread, source: &mut S) -> Result<bool, Failed>
+    // What is answered:
     ensures more { IfOk result (λ more.
         (rest : Bytes)
         → onto_left unread.old (S.left source.old) ≡ Some rest
         → IsTrue more ↔ (rest ≢ [])) }
     ensures ended { result ≡ Ok false → IsDry (S.left source.new) }
     ensures none { OnErr result (unread.new ≡ []) }
+    // What is left of the source:
     ensures rest { LosesNothing unread.old (S.left source.old) unread.new (S.left source.new) }
     ensures later { S.faults source.old ≤ S.faults source.new }
     ensures cause { OnErr result (Faulted S.faults source.old source.new) }

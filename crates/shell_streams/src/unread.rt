@@ -10,11 +10,12 @@ use std::marker::Model;
 /// The number of bytes from which on no more are held when more are read.
 const MOST_HELD: usize = 4_098;
 
-/// The size of the buffer: 65,536 bytes are free after what is held, wherever that stands in the first two times
-/// `MOST_HELD` bytes.
+/// The size of the buffer: 65,536 bytes are free after what is held, wherever that stands in the
+/// first two times `MOST_HELD` bytes.
 const BUFFER: usize = 73_732;
 
-/// The bytes of an input that were read and aren't taken yet. They are read in pieces of up to 65,536 bytes.
+/// The bytes of an input that were read and aren't taken yet. They are read in pieces of up to
+/// 65,536 bytes.
 #[derive(Drop)]
 pub struct Unread {
     bytes: Vec<u8>,
@@ -64,10 +65,12 @@ impl Unread {
     /// Reads at least one byte more after those that are held, and says whether there was one.
     pub fn more<S: Source>(&mut self, source: &mut S) -> Result<bool, Failed>
         requires { length self.old < MOST_HELD }
+        // What is held:
         ensures rest { LosesNothing self.old (S.left source.old) self.new (S.left source.new) }
         ensures grew { result ≡ Ok true → length self.old < length self.new }
         ensures ended { result ≡ Ok false → (self.new ≡ self.old) × IsDry (S.left source.new) }
         ensures kept { OnErr result (self.new ≡ self.old) }
+        // The faults of the source:
         ensures later { S.faults source.old ≤ S.faults source.new }
         ensures cause { OnErr result (Faulted S.faults source.old source.new) }
     {
@@ -81,7 +84,8 @@ impl Unread {
     }
 }
 
-/// Moves the `n` bytes from `at` on to the front, where they stand far after it, and says from where on they stand.
+/// Moves the `n` bytes from `at` on to the front, where they stand far after it, and says from
+/// where on they stand.
 fn with_room(bytes: &mut [u8], at: usize, n: usize) -> usize
     requires few { n < MOST_HELD }
     requires within { at + n ≤ length bytes.old }
@@ -100,12 +104,14 @@ fn with_room(bytes: &mut [u8], at: usize, n: usize) -> usize
 /// Reads into the bytes from `start` on.
 fn read_behind<S: Source>(source: &mut S, bytes: &mut [u8], start: usize) -> Result<usize, Failed>
     requires { start < length bytes.old }
+    // What was read:
     ensures front { take start bytes.new ≡ take start bytes.old }
     ensures within { IfOk result (λ n. start + n ≤ length bytes.old) }
     ensures read { IfOk result (λ n.
         Known (S.left source.old) (S.left source.new) (λ before after.
         ReadsAfter bytes.new before after start n)) }
     ensures nothing { OnErr result (S.left source.new ≡ S.left source.old) }
+    // The faults of the source:
     ensures later { S.faults source.old ≤ S.faults source.new }
     ensures cause { OnErr result (Faulted S.faults source.old source.new) }
 {

@@ -11,9 +11,9 @@ const PIECE: usize = 65_536;
 
 /// Reads the source to its end, and gives all bytes that it had left, at most `most`.
 ///
-/// `TooLong` comes exactly where at least a byte more than `most` is read, `Failed` where the source fails, and `NoMemory`
-/// where the bytes find no memory; a prefix of the bytes was taken then. The bytes are read in pieces of up to 65,536, and take memory of about their own
-/// number. This is this project's own rule.
+/// `TooLong` comes exactly where at least a byte more than `most` is read, `Failed` where the
+/// source fails, and `NoMemory` where the bytes find no memory; a prefix of the bytes was taken
+/// then. The bytes are read in pieces of up to 65,536, and take memory of about their own number.
 pub fn read_all<S: Source>(
     alloc: Global,
     source: &mut S,
