@@ -1,14 +1,14 @@
-ghost use Rattle.std.specs.Prelude.{◌≡◌, ◌≤◌, ◌+◌, ◌++◌, [], Some, None, IsSome, IfOk, OnOk, OnErr, length, map, take, vec_len, vec_capacity};
+ghost use Rattle.std.specs.Prelude.{◌≡◌, ◌≤◌, ◌+◌, ◌++◌, [], Some, None, true, IsSome, IfOk, OnOk, OnErr, length, map, take, vec_len, vec_capacity};
 ghost use Rattle.std.specs.List.{insert};
 ghost use Rattle.std.specs.Option.{option_copied, ForSome};
 ghost use Rattle.oc_bytes.specs.Outcome.{MakesList};
 ghost use Rattle.section_stream.specs.Kept.{view_bytes};
 ghost use Rattle.section_stream.specs.Steps.{kept_unless};
-ghost use Rattle.section_stream.specs.Inner.Steps.{bytes_of, IsWhole};
+ghost use Rattle.section_stream.specs.Inner.Steps.{bytes_of, IsWhole, LacksMore};
 ghost use Rattle.section_stream.specs.declared.open_section.TheConstants.{LONG};
 ghost use Rattle.oc_bytes.specs.declared.lengths.TheConstants.{MOST_SECTION};
 
-use oc_bytes::{MOST_SECTION, NoMemory};
+use oc_bytes::{MOST_LENGTH, MOST_SECTION, NoMemory, length_field};
 use std::alloc::Global;
 use std::marker::Model;
 use std::mem::replace;
@@ -66,6 +66,18 @@ impl OpenSection {
         } else {
             None
         }
+    }
+
+    /// Whether the section's length is known, and more than `n` bytes of it are missing.
+    #[inline]
+    pub fn lacks_more_than(&self, n: usize) -> bool
+        ensures { result ≡ true → LacksMore self.now n }
+    {
+        if !self.is_open || self.bytes.len() < 3 {
+            return false;
+        }
+        let length = length_field(self.bytes[1], self.bytes[2]);
+        length <= MOST_LENGTH && n < (3 + length).saturating_sub(self.bytes.len())
     }
 
     /// Drops the section.

@@ -1,4 +1,4 @@
-ghost use Rattle.std.specs.Prelude.{◌≡◌, ◌++◌, ◌∷◌, ◌<◌, ◌≤◌, ◌+◌, ◌%◌, [], length, map, drop, Some, None, Ok, MatchOption, OnOk, OnErr, IfOk};
+ghost use Rattle.std.specs.Prelude.{◌≡◌, ◌++◌, ◌∷◌, ◌<◌, ◌≤◌, ◌+◌, ◌%◌, [], length, map, drop, Some, None, Ok, true, false, MatchOption, OnOk, OnErr, IfOk};
 ghost use Rattle.ts_packet.specs.Packets.{parse_packet, view};
 ghost use Rattle.section_stream.specs.Pieces.{packets_of, rest_of};
 ghost use Rattle.section_stream.specs.Rules.{one_more, at_start, up};
@@ -14,7 +14,7 @@ use carousel_profile::PACKET_LENGTH;
 use oc_bytes::NoMemory;
 use std::alloc::Global;
 use std::marker::Model;
-use ts_packet::{Packet, parse};
+use ts_packet::{Packet, parse, parse_plain};
 
 /// What is kept of the packets of one PID: the last that counts, the open section and the counts.
 #[derive(Drop)]
@@ -140,6 +140,31 @@ impl Receiver {
         ensures memory { OnErr result (Completes (rules.step self.old packet.now)) }
         ensures err { OnErr result (self.new ≡ self.old) }
     {
+        if let Some(fields) = parse_plain(packet) {
+            if fields.pid != self.pid {
+                count_aside(&mut self.counts, Aside::OtherPid);
+                return Ok(());
+            }
+            if self.goes_on_quickly(packet, fields) {
+                return Ok(());
+            }
+        }
+        self.step_by_class(packet, out)
+    }
+
+    /// `step` for any packet.
+    #[inline(never)]
+    fn step_by_class(
+        &mut self,
+        packet: &[u8; PACKET_LENGTH],
+        out: &mut Vec<Vec<u8>>,
+    ) -> Result<(), NoMemory>
+        ensures ok { OnOk result
+            (Gives (rules.step self.old packet.now) self.new (map view_bytes out.old.items)
+            (map view_bytes out.new.items)) }
+        ensures memory { OnErr result (Completes (rules.step self.old packet.now)) }
+        ensures err { OnErr result (self.new ≡ self.old) }
+    {
         match self.classify(packet) {
             Class::Aside(aside) => {
                 count_aside(&mut self.counts, aside);
@@ -147,6 +172,30 @@ impl Receiver {
             }
             Class::Taken(fields, jumped) => self.take(packet, fields, jumped, out),
         }
+    }
+
+    /// Takes a packet of this PID that follows the last one and only makes the open section longer,
+    /// if it is one.
+    #[inline]
+    fn goes_on_quickly(&mut self, packet: &[u8; PACKET_LENGTH], fields: Packet<'_>) -> bool
+        requires packet { parse_packet packet.now ≡ Ok (view fields) }
+        requires payload { fields.payload.now ≡ drop 4 packet.now }
+        requires pid { fields.pid ≡ self.old.pid }
+        ensures taken { result ≡ true → rules.step self.old packet.now ≡ (self.new, []) }
+        ensures left { result ≡ false → self.new ≡ self.old }
+    {
+        if fields.start
+            || fields.counter != counter_after(self.counter)
+            || !self.opened.lacks_more_than(fields.payload.len())
+        {
+            return false;
+        }
+        count_packet(&mut self.counts, false);
+        self.opened.grow(fields.payload);
+        self.last = *packet;
+        self.counter = fields.counter;
+        self.payload_at = 4;
+        true
     }
 
     /// The counter and the payload of the packet that was kept, if there was one.

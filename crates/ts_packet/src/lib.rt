@@ -13,8 +13,8 @@
 //! ```
 #![tactic(auto)]
 
-ghost use Rattle.std.specs.Prelude.{◌≡◌, ◌<◌, ◌≤◌, Err, IfOk, MatchResult, Ok, length, slice_index, ◌+◌, ◌==◌, [], drop, if◌then◌else◌};
-ghost use Rattle.ts_packet.specs.Packets.{view, control, parse_packet, packet_bytes};
+ghost use Rattle.std.specs.Prelude.{◌≡◌, ◌<◌, ◌≤◌, Err, IfOk, MatchOption, MatchResult, Ok, true, false, length, slice_index, ◌+◌, ◌==◌, [], drop, if◌then◌else◌};
+ghost use Rattle.ts_packet.specs.Packets.{view, control, is_plain, parse_packet, packet_bytes};
 ghost use Rattle.ts_packet.specs.Fates.{arrival_of, flip_bit};
 
 use carousel_profile::PACKET_LENGTH;
@@ -131,6 +131,25 @@ pub fn parse(bytes: &[u8; PACKET_LENGTH]) -> Result<Packet<'_>, PacketFault>
         start: bytes[1] & 0x40 != 0,
         counter: bytes[3] & 0x0F,
         payload: payload_of(bytes),
+    })
+}
+
+/// Reads a packet that has neither a fault nor an adaptation field, as `parse` does. Any other
+/// packet is `None`.
+#[inline]
+pub fn parse_plain(bytes: &[u8; PACKET_LENGTH]) -> Option<Packet<'_>>
+    ensures { MatchOption result (is_plain bytes.now ≡ false) (λ p.
+        (is_plain bytes.now ≡ true) × (parse_packet bytes.now ≡ Ok (view p))
+        × (p.payload.now ≡ drop 4 bytes.now)) }
+{
+    if bytes[0] != SYNC || bytes[1] & 0x80 != 0 || bytes[3] & 0xF0 != 0x10 {
+        return None;
+    }
+    Some(Packet {
+        pid: u16::from(bytes[1] & 0x1F) << 8 | u16::from(bytes[2]),
+        start: bytes[1] & 0x40 != 0,
+        counter: bytes[3] & 0x0F,
+        payload: &bytes[4..],
     })
 }
 
