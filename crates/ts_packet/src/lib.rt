@@ -13,7 +13,7 @@
 //! ```
 #![tactic(auto)]
 
-ghost use Rattle.std.specs.Prelude.{◌≡◌, ◌<◌, ◌≤◌, Err, IfOk, MatchOption, MatchResult, Ok, true, false, length, slice_index, ◌+◌, ◌==◌, [], drop, if◌then◌else◌};
+ghost use Rattle.std.specs.Prelude.{◌≡◌, ◌<◌, ◌≤◌, Err, IfOk, MatchOption, MatchResult, Ok, true, false, length, slice_index, ◌+◌, ◌*◌, ◌/◌, ◌%◌, ◌==◌, [], drop, if◌then◌else◌};
 ghost use Rattle.ts_packet.specs.Packets.{view, control, is_plain, parse_packet, packet_bytes};
 ghost use Rattle.ts_packet.specs.Fates.{arrival_of, flip_bit};
 
@@ -126,12 +126,7 @@ pub fn parse(bytes: &[u8; PACKET_LENGTH]) -> Result<Packet<'_>, PacketFault>
     if control == 3 && bytes[4] > MOST_ADAPTATION {
         return Err(PacketFault::BadField);
     }
-    Ok(Packet {
-        pid: u16::from(bytes[1] & 0x1F) << 8 | u16::from(bytes[2]),
-        start: bytes[1] & 0x40 != 0,
-        counter: bytes[3] & 0x0F,
-        payload: payload_of(bytes),
-    })
+    Ok(with_payload(bytes, payload_of(bytes)))
 }
 
 /// Reads a packet that has neither a fault nor an adaptation field, as `parse` does. Any other
@@ -145,12 +140,23 @@ pub fn parse_plain(bytes: &[u8; PACKET_LENGTH]) -> Option<Packet<'_>>
     if bytes[0] != SYNC || bytes[1] & 0x80 != 0 || bytes[3] & 0xF0 != 0x10 {
         return None;
     }
-    Some(Packet {
+    Some(with_payload(bytes, &bytes[4..]))
+}
+
+/// The fields of the header, with this payload.
+#[inline]
+fn with_payload<'a>(bytes: &[u8; PACKET_LENGTH], payload: &'a [u8]) -> Packet<'a>
+    ensures pid { result.pid ≡ slice_index bytes.now 1 % 32 * 256 + slice_index bytes.now 2 }
+    ensures start { result.start ≡ (slice_index bytes.now 1 / 64 % 2 == 1) }
+    ensures counter { result.counter ≡ slice_index bytes.now 3 % 16 }
+    ensures payload { result.payload.now ≡ payload.now }
+{
+    Packet {
         pid: u16::from(bytes[1] & 0x1F) << 8 | u16::from(bytes[2]),
-        start: bytes[1] & 0x40 != 0,
+        start: bytes[1] >> 6 & 1 == 1,
         counter: bytes[3] & 0x0F,
-        payload: &bytes[4..],
-    })
+        payload,
+    }
 }
 
 /// The bytes after the header and the adaptation field of a packet without a fault.
