@@ -94,9 +94,7 @@ impl Demux {
             < length (candidates self.old.pid (packets ++ packet.now ∷ []))) }
         ensures err { OnErr result (self.new ≡ self.old) }
     {
-        let mut out = Vec::new(self.alloc);
-        self.receiver.step(packet, &mut out)?;
-        Ok(out)
+        self.receiver.feed(packet)
     }
 
     /// Takes the next bytes, at most [`MOST_PIECE`]: 188 bytes from the beginning are one packet, and so on, however they are

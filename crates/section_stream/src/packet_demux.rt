@@ -14,7 +14,6 @@ use std::marker::Model;
 /// `feed` has no condition and no second buffer is kept.
 #[derive(Drop)]
 pub struct PacketDemux {
-    alloc: Global,
     receiver: Receiver,
 }
 
@@ -42,7 +41,6 @@ impl PacketDemux {
         ensures stands { IfOk result (λ d. StandsFor d []) }
     {
         Ok(PacketDemux {
-            alloc,
             receiver: Receiver::new(alloc, pid)?,
         })
     }
@@ -66,9 +64,7 @@ impl PacketDemux {
             < length (candidates self.old.pid (packets ++ packet.now ∷ []))) }
         ensures err { OnErr result (self.new ≡ self.old) }
     {
-        let mut out = Vec::new(self.alloc);
-        self.receiver.step(packet, &mut out)?;
-        Ok(out)
+        self.receiver.feed(packet)
     }
 
     /// What was counted so far.

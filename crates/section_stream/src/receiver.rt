@@ -126,6 +126,19 @@ impl Receiver {
         Ok(rest)
     }
 
+    /// One packet by the receiver's rules, and its candidates.
+    #[inline]
+    pub fn feed(&mut self, packet: &[u8; PACKET_LENGTH]) -> Result<Vec<Vec<u8>>, NoMemory>
+        ensures ok { IfOk result (λ out.
+            Gives (rules.step self.old packet.now) self.new [] (map view_bytes out.items)) }
+        ensures memory { OnErr result (Completes (rules.step self.old packet.now)) }
+        ensures err { OnErr result (self.new ≡ self.old) }
+    {
+        let mut out = Vec::new(self.alloc);
+        self.step(packet, &mut out)?;
+        Ok(out)
+    }
+
     /// One packet by the receiver's rules, with its candidates after those in `out`. After out of memory,
     /// which comes only where it has any, the packet isn't taken.
     #[inline]
