@@ -1,10 +1,10 @@
-ghost use Rattle.std.specs.Prelude.{◌≡◌, ◌≤◌, ◌+◌, ◌++◌, [], Some, None, true, IsSome, IfOk, OnOk, OnErr, length, map, take, vec_len, vec_capacity};
+ghost use Rattle.std.specs.Prelude.{◌≡◌, ◌<◌, ◌≤◌, ◌+◌, ◌++◌, [], Some, None, true, false, IsSome, IfOk, OnOk, OnErr, length, map, take, vec_len, vec_capacity};
 ghost use Rattle.std.specs.List.{insert};
 ghost use Rattle.std.specs.Option.{option_copied, ForSome};
 ghost use Rattle.oc_bytes.specs.Outcome.{MakesList};
 ghost use Rattle.section_stream.specs.Kept.{view_bytes};
 ghost use Rattle.section_stream.specs.Steps.{kept_unless};
-ghost use Rattle.section_stream.specs.Inner.Steps.{bytes_of, IsWhole, LacksMore};
+ghost use Rattle.section_stream.specs.Inner.Steps.{bytes_of, IsWhole, Lacks, LacksMore};
 ghost use Rattle.section_stream.specs.declared.open_section.TheConstants.{LONG};
 ghost use Rattle.oc_bytes.specs.declared.lengths.TheConstants.{MOST_SECTION};
 
@@ -22,19 +22,24 @@ const LONG: usize = 2_048;
 #[derive(Drop)]
 pub struct OpenSection {
     is_open: bool,
+    /// How many bytes of the section are still to come, where that is known, or 0.
+    missing: usize,
     bytes: Vec<u8>,
 }
 
 impl Model for OpenSection {
-    ghost use Rattle.std.specs.Prelude.{◌≤◌, ℕ, List, Option, Some, None, vec_capacity, vec_len, if◌then◌else◌};
+    ghost use Rattle.std.specs.Prelude.{◌≡◌, ◌≤◌, ◌<◌, ℕ, true, List, Option, Some, None, vec_capacity, vec_len, if◌then◌else◌};
     ghost use Rattle.oc_bytes.specs.declared.lengths.TheConstants.{MOST_SECTION};
 
     ghost Value = { Option (List ℕ) };
 
     ghost view = { λ s. if s.is_open then Some s.bytes.items else None };
 
+    ghost use Rattle.section_stream.specs.Inner.Steps.{Lacks};
+
     ghost invariant = { λ s.
-        (vec_len s.bytes ≤ MOST_SECTION) × (MOST_SECTION ≤ vec_capacity s.bytes) };
+        (vec_len s.bytes ≤ MOST_SECTION) × (MOST_SECTION ≤ vec_capacity s.bytes)
+        × (0 < s.missing → (s.is_open ≡ true) × Lacks s.bytes.items s.missing) };
 }
 
 impl OpenSection {
@@ -43,6 +48,7 @@ impl OpenSection {
     {
         Ok(OpenSection {
             is_open: false,
+            missing: 0,
             bytes: Vec::with_capacity(alloc, MOST_SECTION)?,
         })
     }
@@ -52,6 +58,7 @@ impl OpenSection {
         ensures { self.new ≡ from.now }
     {
         self.is_open = from.is_open;
+        self.missing = from.missing;
         self.bytes.clear();
         append(&mut self.bytes, &from.bytes);
     }
@@ -68,24 +75,13 @@ impl OpenSection {
         }
     }
 
-    /// Whether the section's length is known, and more than `n` bytes of it are missing.
-    #[inline]
-    pub fn lacks_more_than(&self, n: usize) -> bool
-        ensures { result ≡ true → LacksMore self.now n }
-    {
-        if !self.is_open || self.bytes.len() < 3 {
-            return false;
-        }
-        let length = length_field(self.bytes[1], self.bytes[2]);
-        length <= MOST_LENGTH && n < (3 + length).saturating_sub(self.bytes.len())
-    }
-
     /// Drops the section.
     #[inline]
     pub fn close(&mut self)
         ensures { self.new ≡ None }
     {
         self.is_open = false;
+        self.missing = 0;
     }
 
     /// Goes on with more bytes; all are no longer than the longest section.
@@ -96,6 +92,23 @@ impl OpenSection {
         ensures { self.new ≡ Some (bytes_of self.old ++ more.now) }
     {
         append(&mut self.bytes, more);
+        self.missing = missing_of(&self.bytes);
+    }
+
+    /// Goes on with more bytes, if it is known that they end before the section's last byte.
+    #[inline]
+    pub fn grow_within(&mut self, more: &[u8]) -> bool
+        ensures grown { result ≡ true
+            → LacksMore self.old (length more.now)
+            × (self.new ≡ Some (bytes_of self.old ++ more.now)) }
+        ensures left { result ≡ false → self.new ≡ self.old }
+    {
+        if self.missing <= more.len() {
+            return false;
+        }
+        append(&mut self.bytes, more);
+        self.missing -= more.len();
+        true
     }
 
     /// Another section is open, with these bytes, or none is; they are no longer than the longest section.
@@ -109,8 +122,9 @@ impl OpenSection {
                 self.is_open = true;
                 self.bytes.clear();
                 append(&mut self.bytes, here);
+                self.missing = missing_of(&self.bytes);
             }
-            None => self.is_open = false,
+            None => self.close(),
         }
     }
 
@@ -141,11 +155,26 @@ impl OpenSection {
         append(&mut self.bytes, last);
         self.bytes.truncate(n);
         self.is_open = false;
+        self.missing = 0;
         let section = exchange(&mut self.bytes, spare, n);
         // There is room for it, and so it isn't refused.
         let _ = out.insert(place, section);
         Ok(())
     }
+}
+
+/// How many bytes these lack to be a section, where they have its length field, or 0.
+fn missing_of(bytes: &[u8]) -> usize
+    ensures { 0 < result → Lacks bytes.now result }
+{
+    if bytes.len() < 3 {
+        return 0;
+    }
+    let length = length_field(bytes[1], bytes[2]);
+    if length > MOST_LENGTH {
+        return 0;
+    }
+    (3 + length).saturating_sub(bytes.len())
 }
 
 /// Room for a section of `n` bytes that is copied, or for the longest one that comes next.

@@ -199,12 +199,11 @@ impl Receiver {
     {
         if fields.start
             || fields.counter != counter_after(self.counter)
-            || !self.opened.lacks_more_than(fields.payload.len())
+            || !self.opened.grow_within(fields.payload)
         {
             return false;
         }
         count_packet(&mut self.counts, false);
-        self.opened.grow(fields.payload);
         self.last = *packet;
         self.counter = fields.counter;
         self.payload_at = 4;

@@ -39,6 +39,12 @@ pub record IsWhole (opened : Option Bytes) (more : Bytes) (n : ℕ) : Type 0 whe
   pub within : n ≤ length (bytes_of opened ++ more)
   pub most : n ≤ MOST_SECTION
 
+-- the bytes of a section that has so many more
+pub record Lacks (bytes : Bytes) (n : ℕ) : Type 0 where
+  pub known : 3 ≤ length bytes
+  pub fits : section_length bytes ≤ MOST_LENGTH
+  pub lacks : length bytes + n ≡ 3 + section_length bytes
+
 -- a section is open whose length is known, and it lacks more than so many bytes
 pub record LacksMore (opened : Option Bytes) (n : ℕ) : Type 0 where
   pub is_open : IsSome opened
