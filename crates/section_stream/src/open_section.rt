@@ -13,16 +13,16 @@ use std::alloc::Global;
 use std::marker::Model;
 use std::mem::replace;
 
-/// A section of so many bytes is given in the buffer that it came together in; a shorter one is copied, so that no candidate
-/// keeps room for more than twice its bytes.
+/// From this length on a section leaves in its own buffer. A shorter one is copied, because no
+/// candidate shall keep room for more than twice its bytes.
 const LONG: usize = 2_048;
 
-/// The section that is open, if one is, in a buffer that holds the longest section: no calls but `new`
-/// and `hand_over` take memory.
+/// The section that is open, if one is. Its buffer holds the longest section, so only `new` and
+/// `hand_over` take memory.
 #[derive(Drop)]
 pub struct OpenSection {
     is_open: bool,
-    /// How many bytes of the section are still to come, where that is known, or 0.
+    /// How many bytes are still to come, if the length field has come; else 0.
     missing: usize,
     bytes: Vec<u8>,
 }
@@ -53,7 +53,6 @@ impl OpenSection {
         })
     }
 
-    /// Becomes as another one is.
     pub fn copy(&mut self, from: &OpenSection)
         ensures { self.new ≡ from.now }
     {
@@ -63,7 +62,7 @@ impl OpenSection {
         append(&mut self.bytes, &from.bytes);
     }
 
-    /// The bytes so far, where they still count.
+    /// The bytes so far, unless packets of the section are missing.
     #[inline]
     pub fn bytes_unless(&self, jumped: bool) -> Option<&[u8]>
         ensures { option_copied result ≡ kept_unless jumped self.now }
@@ -75,7 +74,6 @@ impl OpenSection {
         }
     }
 
-    /// Drops the section.
     #[inline]
     pub fn close(&mut self)
         ensures { self.new ≡ None }
@@ -84,7 +82,6 @@ impl OpenSection {
         self.missing = 0;
     }
 
-    /// Goes on with more bytes; all are no longer than the longest section.
     #[inline]
     pub fn grow(&mut self, more: &[u8])
         requires open { IsSome self.old }
@@ -95,7 +92,7 @@ impl OpenSection {
         self.missing = missing_of(&self.bytes);
     }
 
-    /// Goes on with more bytes, if it is known that they end before the section's last byte.
+    /// Appends these bytes if the section is known to need more than them.
     #[inline]
     pub fn grow_within(&mut self, more: &[u8]) -> bool
         ensures grown { result ≡ true
@@ -111,7 +108,7 @@ impl OpenSection {
         true
     }
 
-    /// Another section is open, with these bytes, or none is; they are no longer than the longest section.
+    /// Opens another section with these bytes, or none.
     #[inline]
     pub fn begin(&mut self, here: Option<&[u8]>)
         requires { ForSome here (λ bytes. length bytes.now ≤ MOST_SECTION) }
@@ -128,8 +125,7 @@ impl OpenSection {
         }
     }
 
-    /// Puts the section that is whole with these bytes, of `n` of them, at a place among the candidates. Nothing changes before
-    /// all memory is there.
+    /// Puts the section of `n` bytes that ends in `more` among the candidates, at `place`.
     pub fn hand_over(
         &mut self,
         alloc: Global,
@@ -163,7 +159,7 @@ impl OpenSection {
     }
 }
 
-/// How many bytes these lack to be a section, where they have its length field, or 0.
+/// How many bytes these lack to be a section, if they have its length field; else 0.
 fn missing_of(bytes: &[u8]) -> usize
     ensures { 0 < result → Lacks bytes.now result }
 {
@@ -177,7 +173,7 @@ fn missing_of(bytes: &[u8]) -> usize
     (3 + length).saturating_sub(bytes.len())
 }
 
-/// Room for a section of `n` bytes that is copied, or for the longest one that comes next.
+/// Room for the copy of a section of `n` bytes, or for the next open one.
 fn spare_for(alloc: Global, n: usize) -> Result<Vec<u8>, NoMemory>
     requires { n ≤ MOST_SECTION }
     ensures empty { MakesList result [] }
@@ -191,13 +187,16 @@ fn spare_for(alloc: Global, n: usize) -> Result<Vec<u8>, NoMemory>
     }
 }
 
-/// The `n` bytes of a section: the buffer itself, in whose place the spare one comes, or a copy of a short one in the spare one.
+/// Takes the section out of `bytes`: a short one as a copy in `spare`, a long one by exchange.
 fn exchange(bytes: &mut Vec<u8>, spare: Vec<u8>, n: usize) -> Vec<u8>
+    // The section and its buffer:
     requires len { vec_len bytes.old ≤ n }
     requires full { MOST_SECTION ≤ vec_capacity bytes.old }
+    // The spare buffer:
     requires empty { spare.items ≡ [] }
     requires room { n ≤ vec_capacity spare }
     requires longest { LONG ≤ n → MOST_SECTION ≤ vec_capacity spare }
+    // What leaves, and what is left:
     ensures section { result.items ≡ bytes.old.items }
     ensures len { vec_len bytes.new ≤ n }
     ensures full { MOST_SECTION ≤ vec_capacity bytes.new }
@@ -211,7 +210,7 @@ fn exchange(bytes: &mut Vec<u8>, spare: Vec<u8>, n: usize) -> Vec<u8>
     }
 }
 
-/// Puts more bytes after these, where there is room for them.
+/// Appends bytes for which there is room.
 fn append(bytes: &mut Vec<u8>, more: &[u8])
     requires { vec_len bytes.old + length more.now ≤ vec_capacity bytes.old }
     ensures items { bytes.new.items ≡ bytes.old.items ++ more.now }
