@@ -125,21 +125,21 @@ impl OpenSection {
         }
     }
 
-    /// Puts the section of `n` bytes that ends in `more` among the candidates, at `place`.
+    /// Puts the section of `n` bytes that ends in `more` among the candidates, at `index`.
     pub fn hand_over(
         &mut self,
         alloc: Global,
         more: &[u8],
         n: usize,
-        place: usize,
+        index: usize,
         out: &mut Vec<Vec<u8>>,
     ) -> Result<(), NoMemory>
         requires whole { IsWhole self.old more.now n }
-        requires place { place ≤ length out.old.items }
+        requires index { index ≤ length out.old.items }
         ensures closed { OnOk result (self.new ≡ None) }
         ensures out { OnOk result
             (map view_bytes out.new.items
-            ≡ insert (map view_bytes out.old.items) place
+            ≡ insert (map view_bytes out.old.items) index
             (take n (bytes_of self.old ++ more.now))) }
         ensures err { OnErr result (self.new ≡ self.old) }
     {
@@ -154,7 +154,7 @@ impl OpenSection {
         self.missing = 0;
         let section = exchange(&mut self.bytes, spare, n);
         // There is room for it, and so it isn't refused.
-        let _ = out.insert(place, section);
+        let _ = out.insert(index, section);
         Ok(())
     }
 }

@@ -108,8 +108,8 @@ fn goes_on(
             Ok(())
         }
         Growth::Whole(n) => {
-            let place = out.len();
-            opened.hand_over(alloc, payload, n, place, out)?;
+            let index = out.len();
+            opened.hand_over(alloc, payload, n, index, out)?;
             Ok(())
         }
     }
@@ -202,7 +202,7 @@ fn begins(
         (HasOut (begun_by opened.old part.now whole here.now counts.old)) }
     ensures err { OnErr result (opened.new ≡ opened.old) }
 {
-    let place = out.len();
+    let index = out.len();
     let left = open_sections(alloc, here, out, counts)?;
     match whole {
         None => {
@@ -210,7 +210,7 @@ fn begins(
             Ok(())
         }
         Some(n) => {
-            opened.hand_over(alloc, part, n, place, out)?;
+            opened.hand_over(alloc, part, n, index, out)?;
             opened.begin(left);
             Ok(())
         }

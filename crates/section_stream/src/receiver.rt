@@ -62,11 +62,11 @@ fn counter_after(counter: u8) -> u8
 }
 
 #[inline]
-fn from_place(packet: &[u8; PACKET_LENGTH], place: usize) -> &[u8]
-    requires { place ≤ PACKET_LENGTH }
-    ensures { result.now ≡ drop place packet.now }
+fn bytes_from(packet: &[u8; PACKET_LENGTH], at: usize) -> &[u8]
+    requires { at ≤ PACKET_LENGTH }
+    ensures { result.now ≡ drop at packet.now }
 {
-    &packet[place..]
+    &packet[at..]
 }
 
 impl Receiver {
@@ -208,7 +208,7 @@ impl Receiver {
             self.now.last ≡ Some (l.0, l.1.now)) }
     {
         if self.payload_at < PACKET_LENGTH {
-            Some((self.counter, from_place(&self.last, self.payload_at)))
+            Some((self.counter, bytes_from(&self.last, self.payload_at)))
         } else {
             None
         }
