@@ -1,9 +1,12 @@
 -- Memory is asked for only where a section is complete.
-use Rattle.std.proofs.Common.{◌≡◌, ℕ, ◌+◌, ◌<◌, ◌≤◌, Bool, false, List, [], ◌∷◌, ◌++◌, Option, Some, length, take, drop, refl, sym, ◌∙◌, ap, subst, arith, length-append}
-use Rattle.std.specs.Prelude.{Result, Ok, Err, OnErr}
+use Rattle.std.proofs.Common.{◌≡◌, ℕ, ◌+◌, ◌<◌, ◌≤◌, Bool, false, List, [], ◌∷◌, ◌++◌, Option, Some, length, map, take, drop, refl, sym, ◌∙◌, ap, subst, arith, length-append}
+use Rattle.std.specs.Prelude.{Result, Ok, Err, IfOk, OnOk, OnErr}
+use Rattle.std.specs.declared.vec.Vec.{Vec}
+use Rattle.std.specs.declared.alloc.Global.{Global}
 use Rattle.carousel_profile.specs.declared.TheConstants.{PACKET_LENGTH}
 use Rattle.ts_packet.specs.Packets.{Fields}
 use Rattle.section_stream.specs.Cuts.{Bytes, candidates}
+use Rattle.section_stream.specs.Kept.{view_bytes}
 use Rattle.section_stream.specs.Inner.Kept.{with_unfinished}
 use Rattle.section_stream.specs.Pieces.{packets_of, rest_of, StandsForBytes}
 use Rattle.section_stream.specs.Rules.{After, DemuxState, Receiving, StandsFor, Whole, after_all, as_grown, jumps_from, one_more, step, takes}
@@ -12,7 +15,7 @@ use Rattle.section_stream.specs.Steps.{kept_unless, no_section_in}
 use Rattle.section_stream.specs.Inner.Steps.{Completes, Gives, HasDone, HasOut, done_by, open_all, with_packet}
 use Rattle.section_stream.specs.declared.counts.Counts.{Counts}
 use Rattle.section_stream.proofs.Bytes.{ends_cut, ends_some, packets_some}
-use Rattle.section_stream.proofs.Feeding.{cuts_step}
+use Rattle.section_stream.proofs.Feeding.{cuts_step, feed_cuts, feed_pid, feed_short, feed_stands}
 use Rattle.section_stream.proofs.Opening.{whole_step}
 use Rattle.section_stream.proofs.Taking.{takes_done}
 
@@ -54,6 +57,25 @@ pub step_completes : (d : DemuxState) (r : Receiving) (u x : Bytes) → with_unf
 step_completes d r u x v g =
     subst (λ (y : DemuxState). (packets : List Bytes) → StandsFor y packets → length (candidates y.pid packets) < length (candidates y.pid (packets ++ x ∷ []))) v
     (λ packets h. longer (candidates r.pid packets) (step r x).1 (candidates r.pid (packets ++ x ∷ [])) (cuts_step r packets x h.received) g.some)
+
+-- what the answer to one packet says of all packets so far
+pub record Fed {E : Type 0} (d : DemuxState) (t : Receiving) (u x : Bytes) (r : Result (Vec (Vec ℕ Global) Global) E) : Type 0 where
+  pub stands : OnOk r ((packets : List Bytes) → StandsFor d packets → StandsFor (with_unfinished t u) (packets ++ x ∷ []))
+  pub pid : OnOk r (t.pid ≡ d.pid)
+  pub short : OnOk r (t.counts.short_tail ≡ d.counts.short_tail)
+  pub cuts : IfOk r (λ out. (packets : List Bytes) → StandsFor d packets → candidates d.pid (packets ++ x ∷ []) ≡ candidates d.pid packets ++ map view_bytes out.items)
+  pub completes : OnErr r ((packets : List Bytes) → StandsFor d packets → length (candidates d.pid packets) < length (candidates d.pid (packets ++ x ∷ [])))
+
+pub fed : {E : Type 0} (d : DemuxState) (s t : Receiving) (u x : Bytes) (r : Result (Vec (Vec ℕ Global) Global) E) → with_unfinished s u ≡ d
+    → IfOk r (λ out. Gives (step s x) t [] (map view_bytes out.items)) → OnErr r (Completes (step s x)) → Fed d t u x r
+fed d s t u x (Ok out) v g m = record {
+  stands = feed_stands d s t u x [] (map view_bytes out.items) v refl g;
+  pid = feed_pid d s t u x [] (map view_bytes out.items) v g;
+  short = feed_short d s t u x [] (map view_bytes out.items) v g;
+  cuts = feed_cuts d s t u x [] (map view_bytes out.items) v refl g;
+  completes = tt;
+}
+fed d s t u x (Err e) v g m = record { stands = tt; pid = tt; short = tt; cuts = tt; completes = step_completes d s u x v m }
 
 -- ---- packets one after another
 

@@ -6,6 +6,7 @@ pub mod Pieces
 pub mod Bytes
 pub mod Opening
 pub mod Taking
+pub mod Longer
 pub mod Completing
 pub mod Handing
 pub mod Packed

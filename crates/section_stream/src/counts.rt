@@ -4,8 +4,7 @@ ghost use Rattle.section_stream.specs.Inner.Steps as steps;
 
 use ts_packet::PacketFault;
 
-/// How often each of the receiver's rules applied, since the demultiplexer was made. A count stays at
-/// the greatest `u64` once it is there.
+/// How often each of the receiver's rules applied so far. A count stops at the greatest `u64`.
 #[derive(Clone, Copy, Debug, PartialEq, Eq)]
 pub struct Counts {
     /// All packets.
@@ -16,31 +15,31 @@ pub struct Counts {
     pub errored: u64,
     /// Scrambled packets.
     pub scrambled: u64,
-    /// Packets with the reserved adaptation field control.
+    /// Packets whose adaptation field control is 00.
     pub reserved: u64,
-    /// Packets whose adaptation field leaves no room for their payload.
+    /// Packets whose adaptation field leaves no room for a payload.
     pub bad_field: u64,
     /// Packets of another PID.
     pub other_pid: u64,
     /// Packets without a payload.
     pub no_payload: u64,
-    /// Packets with the counter and the payload of the one before them.
+    /// Packets with the counter and the payload of the last one.
     pub duplicates: u64,
-    /// Packets whose counter isn't one above that of the one before them.
+    /// Packets whose counter isn't one above the last one's.
     pub jumps: u64,
-    /// Packets that begin no section and come while none is open.
+    /// Packets that begin no section while none is open.
     pub orphans: u64,
-    /// Packets whose pointer field points after their payload.
+    /// Packets whose pointer field points past their payload.
     pub bad_pointer: u64,
-    /// Sections that weren't complete where the next one began.
+    /// Sections that were incomplete where the next one began.
     pub cut: u64,
     /// Sections whose length field is above 4,093.
     pub oversize: u64,
-    /// Last pieces of fewer than 188 bytes.
+    /// Inputs that ended with fewer than 188 bytes.
     pub short_tail: u64,
 }
 
-/// Why a packet is counted and leaves all else as it is.
+/// Why a packet changes nothing but counts.
 #[derive(Clone, Copy, Debug, PartialEq, Eq)]
 pub enum Aside {
     Fault(PacketFault),
@@ -49,7 +48,6 @@ pub enum Aside {
     Duplicate,
 }
 
-/// No packet has come yet.
 pub fn nothing_counted() -> Counts
     ensures { result ≡ rules.nothing_counted }
 {
@@ -72,7 +70,6 @@ pub fn nothing_counted() -> Counts
     }
 }
 
-/// One more, or the greatest count.
 #[inline]
 pub fn up(count: u64) -> u64
     ensures { result ≡ rules.up count }
@@ -80,7 +77,7 @@ pub fn up(count: u64) -> u64
     count.saturating_add(1)
 }
 
-/// Counts a packet more that is taken, where packets before it are missing or not.
+/// Counts a packet that is taken. `jumped`: packets before it are missing.
 #[inline]
 pub fn count_packet(counts: &mut Counts, jumped: bool)
     ensures { counts.new ≡ steps.with_packet jumped counts.old }
@@ -91,7 +88,6 @@ pub fn count_packet(counts: &mut Counts, jumped: bool)
     }
 }
 
-/// Counts a packet that changes nothing else.
 #[inline]
 pub fn count_aside(counts: &mut Counts, aside: Aside)
     ensures { counts.new ≡ steps.count_aside aside (steps.with_packet false counts.old) }

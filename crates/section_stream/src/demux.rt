@@ -13,19 +13,18 @@ use std::alloc::Global;
 use std::marker::Model;
 use std::mem::swap;
 
-/// The most bytes that are taken at once. This project's own limit.
+/// The most bytes of a piece.
 pub const MOST_PIECE: usize = 65_536;
 
-/// Cuts the sections of one PID out of transport packets (ISO/IEC 13818-1, 2.4.4), packet by packet, or out of
-/// their bytes in pieces of any size.
+/// Cuts the sections of one PID out of transport packets (ISO/IEC 13818-1, 2.4.4). It takes whole
+/// packets, or their bytes in pieces of any size.
 ///
-/// Contracts see the PID, what is kept of the packets so far, and `unfinished`, the bytes of a packet of which not
-/// all came yet.
+/// `unfinished` is the first bytes of a packet whose other bytes haven't come yet.
 #[derive(Drop)]
 pub struct Demux {
     alloc: Global,
     receiver: Receiver,
-    /// In it the packets of a piece are taken, so that nothing has changed where memory runs out.
+    /// Takes the packets of a piece. If memory runs out, `receiver` is as it was.
     spare: Receiver,
     unfinished: Piece,
 }
@@ -51,7 +50,7 @@ impl Model for Demux {
 }
 
 impl Demux {
-    /// A demultiplexer of the PID `pid` that has had no packet. It reserves all the memory that it keeps.
+    /// A demultiplexer of the PID `pid` before its first packet. It reserves all its memory.
     pub fn new(alloc: Global, pid: u16) -> Result<Demux, NoMemory>
         ensures fresh { IfOk result (λ d. d ≡ fresh pid) }
         ensures stands { IfOk result (λ d. StandsFor d []) }
@@ -65,24 +64,22 @@ impl Demux {
         })
     }
 
-    /// Takes one packet, and gives the sections that it completes, in the order in which they opened: 0
-    /// to 61 of them, each of 3 to 4,096 bytes as its length field says. What is counted and what
-    /// becomes of the open section are the receiver's rules of `specs/Rules.antt`; all sections given so
-    /// far are those cut out of all packets so far, looking forward from each place where one opens.
+    /// Takes one packet and answers the sections that it completes, in the order in which they
+    /// opened: 0 to 61 of them, each of 3 to 4,096 bytes. `specs/Rules.antt` has the rules.
     ///
-    /// No bytes of an unfinished packet are kept (`pending` is 0).
-    ///
-    /// A packet that completes no section takes no memory, so out of memory comes only of one that
-    /// completes one. After it the packet isn't taken, and everything is as it was.
+    /// Call it only where `pending` is 0. Memory can run out only at a packet that completes a
+    /// section.
     #[inline]
     pub fn feed(&mut self, packet: &[u8; PACKET_LENGTH]) -> Result<Vec<Vec<u8>>, NoMemory>
         requires { self.old.unfinished ≡ [] }
+        // What it stands for after the packet:
         ensures stands { OnOk result ((packets : List Bytes)
             → StandsFor self.old packets
             → StandsFor self.new (packets ++ packet.now ∷ [])) }
         ensures pid { OnOk result (self.new.pid ≡ self.old.pid) }
         ensures short { OnOk result (self.new.counts.short_tail ≡ self.old.counts.short_tail) }
         ensures whole { self.new.unfinished ≡ [] }
+        // What it answers:
         ensures cuts { IfOk result (λ out.
             (packets : List Bytes)
             → StandsFor self.old packets
@@ -92,31 +89,31 @@ impl Demux {
             → StandsFor self.old packets
             → length (candidates self.old.pid packets)
             < length (candidates self.old.pid (packets ++ packet.now ∷ []))) }
+        // If memory runs out:
         ensures err { OnErr result (self.new ≡ self.old) }
     {
-        let mut out = Vec::new(self.alloc);
-        self.receiver.step(packet, &mut out)?;
-        Ok(out)
+        self.receiver.feed(packet)
     }
 
-    /// Takes the next bytes, at most [`MOST_PIECE`]: 188 bytes from the beginning are one packet, and so on, however they are
-    /// cut into pieces. Gives the sections that the packets complete that end in this piece, as `feed` gives them.
+    /// Takes the next bytes, at most [`MOST_PIECE`]. Each 188 bytes of all pieces are one packet.
+    /// The answer is the sections of the packets that end in this piece, as `feed` answers them.
     ///
-    /// A piece that ends no packet, or whose packets complete no section, takes no memory, so out of memory comes only of
-    /// one with which a section is complete. After it, also in the middle of a piece, everything is as it was, what is
-    /// counted too.
+    /// Memory can run out only at a piece that completes a section.
     pub fn feed_bytes(&mut self, piece: &[u8]) -> Result<Vec<Vec<u8>>, NoMemory>
         requires { length piece.now ≤ MOST_PIECE }
+        // What it stands for after the piece:
         ensures stands { OnOk result ((bytes : Bytes)
             → StandsForBytes self.old bytes
             → StandsForBytes self.new (bytes ++ piece.now)) }
         ensures pid { OnOk result (self.new.pid ≡ self.old.pid) }
         ensures short { OnOk result (self.new.counts.short_tail ≡ self.old.counts.short_tail) }
+        // What it answers:
         ensures cuts { IfOk result (λ out.
             (bytes : Bytes)
             → StandsForBytes self.old bytes
             → candidates self.old.pid (packets_of (bytes ++ piece.now))
             ≡ candidates self.old.pid (packets_of bytes) ++ map view_bytes out.items) }
+        // If memory runs out:
         ensures memory { IsErr result
             → PACKET_LENGTH ≤ length self.old.unfinished + length piece.now }
         ensures completes { OnErr result ((bytes : Bytes)
@@ -141,7 +138,7 @@ impl Demux {
         Ok(out)
     }
 
-    /// How many bytes of an unfinished packet are kept, 0 to 187.
+    /// How many bytes of an unfinished packet it keeps, 0 to 187.
     pub fn pending(&self) -> usize
         ensures bytes { result ≡ length self.now.unfinished }
         ensures few { result ≤ 187 }
@@ -149,14 +146,14 @@ impl Demux {
         self.unfinished.len()
     }
 
-    /// What was counted so far.
+    /// The counts so far.
     pub fn counts(&self) -> Counts
         ensures { result ≡ self.now.counts }
     {
         self.receiver.counts()
     }
 
-    /// Counts a last piece of fewer than 188 bytes. It takes no memory.
+    /// Counts an input that ended with fewer than 188 bytes.
     pub fn short(&mut self)
         ensures stands { (packets : List Bytes)
             → StandsFor self.old packets

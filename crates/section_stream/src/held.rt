@@ -4,9 +4,8 @@ ghost use Rattle.section_stream.specs.Packing.{is_none};
 use crate::piece::Piece;
 use std::marker::Model;
 
-/// What a packer holds back: the bytes left of a section that was begun in packets already given, and
-/// after them those of the sections that begin in the packet under way. Both together leave room in
-/// that packet.
+/// What a packer holds back. First come the last bytes of a section that began in earlier packets,
+/// then the sections that begin in the next packet. Both leave room in that packet.
 #[derive(Drop)]
 pub struct Held {
     bytes: Piece,
@@ -34,7 +33,6 @@ impl Held {
         }
     }
 
-    /// All bytes.
     pub fn bytes(&self) -> &[u8]
         ensures bytes { result.now ≡ self.now.tail ++ self.now.body }
         ensures few { length result.now < 183 }
@@ -42,21 +40,19 @@ impl Held {
         self.bytes.as_slice()
     }
 
-    /// How many bytes are left of the begun section.
     pub fn tail(&self) -> u8
         ensures { result ≡ length self.now.tail }
     {
         self.tail as u8
     }
 
-    /// Whether a section begins in the packet under way.
+    /// Whether a section begins in the next packet.
     pub fn begins(&self) -> bool
         ensures { result ≡ not (is_none self.now.body) }
     {
         self.tail < self.bytes.len()
     }
 
-    /// Holds back one section more, which leaves room after it.
     pub fn append(&mut self, section: &[u8])
         requires { length self.old.tail + length self.old.body + length section.now < 183 }
         ensures { self.new ≡ record { tail = self.old.tail; body = self.old.body ++ section.now } }
@@ -64,7 +60,7 @@ impl Held {
         self.bytes.append(section);
     }
 
-    /// Holds back what is left of a begun section alone.
+    /// Holds back the last bytes of a begun section alone.
     pub fn replace(&mut self, tail: &[u8])
         requires { length tail.now < 183 }
         ensures { self.new ≡ record { tail = tail.now; body = [] } }

@@ -1,4 +1,5 @@
-//! Sections into transport packets, and out of them again.
+//! Sections into transport packets, and out of them again. What the receiver counts and drops is
+//! this project's own rule; `specs/Rules.antt` has it.
 //!
 //! ```
 //! use section_stream::{Mux, PacketDemux};

@@ -1,40 +1,45 @@
-ghost use Rattle.std.specs.Prelude.{◌≡◌, ◌≤◌, ◌+◌, ◌++◌, [], Some, None, IsSome, IfOk, OnOk, OnErr, length, map, take, vec_len, vec_capacity};
+ghost use Rattle.std.specs.Prelude.{◌≡◌, ◌<◌, ◌≤◌, ◌+◌, ◌++◌, [], Some, None, true, false, IsSome, IfOk, OnOk, OnErr, length, map, take, vec_len, vec_capacity};
 ghost use Rattle.std.specs.List.{insert};
 ghost use Rattle.std.specs.Option.{option_copied, ForSome};
 ghost use Rattle.oc_bytes.specs.Outcome.{MakesList};
 ghost use Rattle.section_stream.specs.Kept.{view_bytes};
 ghost use Rattle.section_stream.specs.Steps.{kept_unless};
-ghost use Rattle.section_stream.specs.Inner.Steps.{bytes_of, IsWhole};
+ghost use Rattle.section_stream.specs.Inner.Steps.{bytes_of, IsWhole, Lacks, LacksMore};
 ghost use Rattle.section_stream.specs.declared.open_section.TheConstants.{LONG};
 ghost use Rattle.oc_bytes.specs.declared.lengths.TheConstants.{MOST_SECTION};
 
-use oc_bytes::{MOST_SECTION, NoMemory};
+use oc_bytes::{MOST_LENGTH, MOST_SECTION, NoMemory, length_field};
 use std::alloc::Global;
 use std::marker::Model;
 use std::mem::replace;
 
-/// A section of so many bytes is given in the buffer that it came together in; a shorter one is copied, so that no candidate
-/// keeps room for more than twice its bytes.
+/// From this length on a section leaves in its own buffer. A shorter one is copied, because no
+/// candidate shall keep room for more than twice its bytes.
 const LONG: usize = 2_048;
 
-/// The section that is open, if one is, in a buffer that holds the longest section: no calls but `new`
-/// and `hand_over` take memory.
+/// The section that is open, if one is. Its buffer holds the longest section, so only `new` and
+/// `hand_over` take memory.
 #[derive(Drop)]
 pub struct OpenSection {
     is_open: bool,
+    /// How many bytes are still to come, if the length field has come; else 0.
+    missing: usize,
     bytes: Vec<u8>,
 }
 
 impl Model for OpenSection {
-    ghost use Rattle.std.specs.Prelude.{◌≤◌, ℕ, List, Option, Some, None, vec_capacity, vec_len, if◌then◌else◌};
+    ghost use Rattle.std.specs.Prelude.{◌≡◌, ◌≤◌, ◌<◌, ℕ, true, List, Option, Some, None, vec_capacity, vec_len, if◌then◌else◌};
     ghost use Rattle.oc_bytes.specs.declared.lengths.TheConstants.{MOST_SECTION};
 
     ghost Value = { Option (List ℕ) };
 
     ghost view = { λ s. if s.is_open then Some s.bytes.items else None };
 
+    ghost use Rattle.section_stream.specs.Inner.Steps.{Lacks};
+
     ghost invariant = { λ s.
-        (vec_len s.bytes ≤ MOST_SECTION) × (MOST_SECTION ≤ vec_capacity s.bytes) };
+        (vec_len s.bytes ≤ MOST_SECTION) × (MOST_SECTION ≤ vec_capacity s.bytes)
+        × (0 < s.missing → (s.is_open ≡ true) × Lacks s.bytes.items s.missing) };
 }
 
 impl OpenSection {
@@ -43,20 +48,21 @@ impl OpenSection {
     {
         Ok(OpenSection {
             is_open: false,
+            missing: 0,
             bytes: Vec::with_capacity(alloc, MOST_SECTION)?,
         })
     }
 
-    /// Becomes as another one is.
     pub fn copy(&mut self, from: &OpenSection)
         ensures { self.new ≡ from.now }
     {
         self.is_open = from.is_open;
+        self.missing = from.missing;
         self.bytes.clear();
         append(&mut self.bytes, &from.bytes);
     }
 
-    /// The bytes so far, where they still count.
+    /// The bytes so far, unless packets of the section are missing.
     #[inline]
     pub fn bytes_unless(&self, jumped: bool) -> Option<&[u8]>
         ensures { option_copied result ≡ kept_unless jumped self.now }
@@ -68,15 +74,14 @@ impl OpenSection {
         }
     }
 
-    /// Drops the section.
     #[inline]
     pub fn close(&mut self)
         ensures { self.new ≡ None }
     {
         self.is_open = false;
+        self.missing = 0;
     }
 
-    /// Goes on with more bytes; all are no longer than the longest section.
     #[inline]
     pub fn grow(&mut self, more: &[u8])
         requires open { IsSome self.old }
@@ -84,9 +89,26 @@ impl OpenSection {
         ensures { self.new ≡ Some (bytes_of self.old ++ more.now) }
     {
         append(&mut self.bytes, more);
+        self.missing = missing_of(&self.bytes);
     }
 
-    /// Another section is open, with these bytes, or none is; they are no longer than the longest section.
+    /// Appends these bytes if the section is known to need more than them.
+    #[inline]
+    pub fn grow_within(&mut self, more: &[u8]) -> bool
+        ensures grown { result ≡ true
+            → LacksMore self.old (length more.now)
+            × (self.new ≡ Some (bytes_of self.old ++ more.now)) }
+        ensures left { result ≡ false → self.new ≡ self.old }
+    {
+        if self.missing <= more.len() {
+            return false;
+        }
+        append(&mut self.bytes, more);
+        self.missing -= more.len();
+        true
+    }
+
+    /// Opens another section with these bytes, or none.
     #[inline]
     pub fn begin(&mut self, here: Option<&[u8]>)
         requires { ForSome here (λ bytes. length bytes.now ≤ MOST_SECTION) }
@@ -97,27 +119,27 @@ impl OpenSection {
                 self.is_open = true;
                 self.bytes.clear();
                 append(&mut self.bytes, here);
+                self.missing = missing_of(&self.bytes);
             }
-            None => self.is_open = false,
+            None => self.close(),
         }
     }
 
-    /// Puts the section that is whole with these bytes, of `n` of them, at a place among the candidates. Nothing changes before
-    /// all memory is there.
+    /// Puts the section of `n` bytes that ends in `more` among the candidates, at `index`.
     pub fn hand_over(
         &mut self,
         alloc: Global,
         more: &[u8],
         n: usize,
-        place: usize,
+        index: usize,
         out: &mut Vec<Vec<u8>>,
     ) -> Result<(), NoMemory>
         requires whole { IsWhole self.old more.now n }
-        requires place { place ≤ length out.old.items }
+        requires index { index ≤ length out.old.items }
         ensures closed { OnOk result (self.new ≡ None) }
         ensures out { OnOk result
             (map view_bytes out.new.items
-            ≡ insert (map view_bytes out.old.items) place
+            ≡ insert (map view_bytes out.old.items) index
             (take n (bytes_of self.old ++ more.now))) }
         ensures err { OnErr result (self.new ≡ self.old) }
     {
@@ -129,14 +151,29 @@ impl OpenSection {
         append(&mut self.bytes, last);
         self.bytes.truncate(n);
         self.is_open = false;
+        self.missing = 0;
         let section = exchange(&mut self.bytes, spare, n);
         // There is room for it, and so it isn't refused.
-        let _ = out.insert(place, section);
+        let _ = out.insert(index, section);
         Ok(())
     }
 }
 
-/// Room for a section of `n` bytes that is copied, or for the longest one that comes next.
+/// How many bytes these lack to be a section, if they have its length field; else 0.
+fn missing_of(bytes: &[u8]) -> usize
+    ensures { 0 < result → Lacks bytes.now result }
+{
+    if bytes.len() < 3 {
+        return 0;
+    }
+    let length = length_field(bytes[1], bytes[2]);
+    if length > MOST_LENGTH {
+        return 0;
+    }
+    (3 + length).saturating_sub(bytes.len())
+}
+
+/// Room for the copy of a section of `n` bytes, or for the next open one.
 fn spare_for(alloc: Global, n: usize) -> Result<Vec<u8>, NoMemory>
     requires { n ≤ MOST_SECTION }
     ensures empty { MakesList result [] }
@@ -150,13 +187,16 @@ fn spare_for(alloc: Global, n: usize) -> Result<Vec<u8>, NoMemory>
     }
 }
 
-/// The `n` bytes of a section: the buffer itself, in whose place the spare one comes, or a copy of a short one in the spare one.
+/// Takes the section out of `bytes`: a short one as a copy in `spare`, a long one by exchange.
 fn exchange(bytes: &mut Vec<u8>, spare: Vec<u8>, n: usize) -> Vec<u8>
+    // The section and its buffer:
     requires len { vec_len bytes.old ≤ n }
     requires full { MOST_SECTION ≤ vec_capacity bytes.old }
+    // The spare buffer:
     requires empty { spare.items ≡ [] }
     requires room { n ≤ vec_capacity spare }
     requires longest { LONG ≤ n → MOST_SECTION ≤ vec_capacity spare }
+    // What leaves, and what is left:
     ensures section { result.items ≡ bytes.old.items }
     ensures len { vec_len bytes.new ≤ n }
     ensures full { MOST_SECTION ≤ vec_capacity bytes.new }
@@ -170,7 +210,7 @@ fn exchange(bytes: &mut Vec<u8>, spare: Vec<u8>, n: usize) -> Vec<u8>
     }
 }
 
-/// Puts more bytes after these, where there is room for them.
+/// Appends bytes for which there is room.
 fn append(bytes: &mut Vec<u8>, more: &[u8])
     requires { vec_len bytes.old + length more.now ≤ vec_capacity bytes.old }
     ensures items { bytes.new.items ≡ bytes.old.items ++ more.now }

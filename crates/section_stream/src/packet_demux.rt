@@ -10,11 +10,10 @@ use oc_bytes::NoMemory;
 use std::alloc::Global;
 use std::marker::Model;
 
-/// Cuts the sections of one PID out of whole transport packets: a `Demux` that is given no pieces, so that
-/// `feed` has no condition and no second buffer is kept.
+/// Cuts the sections of one PID out of whole transport packets. Unlike `Demux` it takes no pieces,
+/// so its `feed` has no condition and it needs no second buffer.
 #[derive(Drop)]
 pub struct PacketDemux {
-    alloc: Global,
     receiver: Receiver,
 }
 
@@ -36,25 +35,26 @@ impl Model for PacketDemux {
 }
 
 impl PacketDemux {
-    /// A demultiplexer of the PID `pid` that has had no packet. It reserves all the memory that it keeps.
+    /// A demultiplexer of the PID `pid` before its first packet. It reserves all its memory.
     pub fn new(alloc: Global, pid: u16) -> Result<PacketDemux, NoMemory>
         ensures fresh { IfOk result (λ d. d ≡ fresh pid) }
         ensures stands { IfOk result (λ d. StandsFor d []) }
     {
         Ok(PacketDemux {
-            alloc,
             receiver: Receiver::new(alloc, pid)?,
         })
     }
 
-    /// Takes one packet, as `Demux::feed` does: out of memory comes only of a packet that completes a section.
+    /// Takes one packet, as `Demux::feed` does.
     #[inline]
     pub fn feed(&mut self, packet: &[u8; PACKET_LENGTH]) -> Result<Vec<Vec<u8>>, NoMemory>
+        // What it stands for after the packet:
         ensures stands { OnOk result ((packets : List Bytes)
             → StandsFor self.old packets
             → StandsFor self.new (packets ++ packet.now ∷ [])) }
         ensures pid { OnOk result (self.new.pid ≡ self.old.pid) }
         ensures short { OnOk result (self.new.counts.short_tail ≡ self.old.counts.short_tail) }
+        // What it answers:
         ensures cuts { IfOk result (λ out.
             (packets : List Bytes)
             → StandsFor self.old packets
@@ -64,21 +64,20 @@ impl PacketDemux {
             → StandsFor self.old packets
             → length (candidates self.old.pid packets)
             < length (candidates self.old.pid (packets ++ packet.now ∷ []))) }
+        // If memory runs out:
         ensures err { OnErr result (self.new ≡ self.old) }
     {
-        let mut out = Vec::new(self.alloc);
-        self.receiver.step(packet, &mut out)?;
-        Ok(out)
+        self.receiver.feed(packet)
     }
 
-    /// What was counted so far.
+    /// The counts so far.
     pub fn counts(&self) -> Counts
         ensures { result ≡ self.now.counts }
     {
         self.receiver.counts()
     }
 
-    /// Counts a last piece of fewer than 188 bytes. It takes no memory.
+    /// Counts an input that ended with fewer than 188 bytes.
     pub fn short(&mut self)
         ensures stands { (packets : List Bytes)
             → StandsFor self.old packets

@@ -14,21 +14,19 @@ use carousel_profile::PACKET_LENGTH;
 use oc_bytes::{MOST_LENGTH, NoMemory, length_field};
 use std::alloc::Global;
 
-/// The byte in the place of a table id with which the rest of a packet is filled.
+/// Fills the rest of a packet, in place of a table id.
 const STUFFING: u8 = 0xFF;
 
-/// How far bytes from a section's first on have come.
+/// How far the first bytes of a section have come.
 #[derive(Clone, Copy, Debug, PartialEq, Eq)]
 pub enum Growth {
-    /// The section isn't whole.
     Growing,
-    /// Its length field is too great.
+    /// The length field is above 4,093.
     Oversize,
-    /// It is whole, and has this many bytes.
+    /// The section is complete, with this many bytes.
     Whole(usize),
 }
 
-/// Whether two pieces together have at least `n` bytes.
 #[inline]
 fn have(front: &[u8], back: &[u8], n: usize) -> bool
     ensures { result ≡ nat_le n (length (front.now ++ back.now)) }
@@ -36,7 +34,6 @@ fn have(front: &[u8], back: &[u8], n: usize) -> bool
     n.saturating_sub(front.len()) <= back.len()
 }
 
-/// The byte at a place of two pieces, one after the other.
 #[inline]
 fn byte_at(front: &[u8], back: &[u8], at: usize) -> u8
     requires { at < length (front.now ++ back.now) }
@@ -49,7 +46,6 @@ fn byte_at(front: &[u8], back: &[u8], at: usize) -> u8
     }
 }
 
-/// How far a section with these two pieces has come.
 #[inline]
 fn growth_with(front: &[u8], back: &[u8]) -> Growth
     ensures { growth_of result ≡ rules.as_grown (front.now ++ back.now) }
@@ -68,7 +64,6 @@ fn growth_with(front: &[u8], back: &[u8]) -> Growth
     }
 }
 
-/// Puts the section of the first `n` bytes after the candidates so far.
 fn complete(alloc: Global, here: &[u8], n: usize, out: &mut Vec<Vec<u8>>) -> Result<(), NoMemory>
     requires { n ≤ length here.now }
     ensures { OnOk result
@@ -80,7 +75,7 @@ fn complete(alloc: Global, here: &[u8], n: usize, out: &mut Vec<Vec<u8>>) -> Res
     Ok(())
 }
 
-/// A packet that begins no section: its payload goes on with the open section.
+/// The payload of a packet that begins no section.
 #[inline]
 fn goes_on(
     alloc: Global,
@@ -113,15 +108,15 @@ fn goes_on(
             Ok(())
         }
         Growth::Whole(n) => {
-            let place = out.len();
-            opened.hand_over(alloc, payload, n, place, out)?;
+            let index = out.len();
+            opened.hand_over(alloc, payload, n, index, out)?;
             Ok(())
         }
     }
 }
 
-/// The bytes before the first section that begins in a packet: they are the last of the open section. The answer is its
-/// length, where it is whole; else it is counted.
+/// Ends the open section with the bytes before a packet's first section. The answer is its length
+/// if it is complete; else it is counted.
 fn closes(opened: Option<&[u8]>, part: &[u8], counts: &mut Counts) -> Option<usize>
     ensures closed { rules.closes (option_copied opened.entry) part.now counts.old
         ≡ record {
@@ -148,15 +143,14 @@ fn closes(opened: Option<&[u8]>, part: &[u8], counts: &mut Counts) -> Option<usi
     }
 }
 
-/// Whether no section begins at the front of these bytes.
 fn has_no_section(here: &[u8]) -> bool
     ensures { result ≡ no_section_in here.now }
 {
     here.is_empty() || here[0] == STUFFING
 }
 
-/// The sections that begin in a packet, one after another: whole ones are candidates, and the answer is
-/// the beginning of one that stays open.
+/// The sections that begin in a packet. Complete ones become candidates; the answer is the bytes of
+/// the one that stays open.
 fn open_sections<'a>(
     alloc: Global,
     mut here: &'a [u8],
@@ -188,7 +182,7 @@ fn open_sections<'a>(
     Ok(None)
 }
 
-/// The candidate of `whole` bytes of the open section and `part`, if it is one, and the sections that begin after it.
+/// The open section with `part`, if `whole` says that it is complete, and the sections after it.
 #[inline]
 fn begins(
     alloc: Global,
@@ -208,7 +202,7 @@ fn begins(
         (HasOut (begun_by opened.old part.now whole here.now counts.old)) }
     ensures err { OnErr result (opened.new ≡ opened.old) }
 {
-    let place = out.len();
+    let index = out.len();
     let left = open_sections(alloc, here, out, counts)?;
     match whole {
         None => {
@@ -216,14 +210,14 @@ fn begins(
             Ok(())
         }
         Some(n) => {
-            opened.hand_over(alloc, part, n, place, out)?;
+            opened.hand_over(alloc, part, n, index, out)?;
             opened.begin(left);
             Ok(())
         }
     }
 }
 
-/// A packet in which a section begins, after a pointer field.
+/// The payload of a packet that begins a section, after a pointer field.
 #[inline]
 fn starts(
     alloc: Global,
@@ -260,8 +254,6 @@ fn starts(
     }
 }
 
-/// What the payload of a packet does, as the packet begins a section or not. Nothing but the candidates changes where memory
-/// is wanting.
 #[inline]
 pub fn payload_done(
     alloc: Global,

@@ -3,7 +3,7 @@ ghost use Rattle.std.specs.Prelude.{◌≡◌, ◌≤◌, ◌+◌, ◌++◌, [],
 use carousel_profile::PACKET_LENGTH;
 use std::marker::Model;
 
-/// At most the bytes of a packet, in place: nothing here takes memory.
+/// At most 188 bytes, kept in place: no call takes memory.
 #[derive(Drop)]
 pub struct Piece {
     bytes: [u8; PACKET_LENGTH],
@@ -45,7 +45,6 @@ impl Piece {
         &self.bytes[..self.len]
     }
 
-    /// Puts more bytes after these.
     pub fn append(&mut self, more: &[u8])
         requires { length self.old + length more.now ≤ PACKET_LENGTH }
         ensures { self.new ≡ self.old ++ more.now }
@@ -54,7 +53,6 @@ impl Piece {
         self.len += more.len();
     }
 
-    /// Keeps these bytes in place of those before.
     pub fn replace(&mut self, bytes: &[u8])
         requires { length bytes.now ≤ PACKET_LENGTH }
         ensures { self.new ≡ bytes.now }
@@ -63,7 +61,6 @@ impl Piece {
         self.len = bytes.len();
     }
 
-    /// The packet that these bytes and those after them make.
     pub fn completed(&self, behind: &[u8]) -> [u8; PACKET_LENGTH]
         requires { length self.now + length behind.now ≡ PACKET_LENGTH }
         ensures { result ≡ self.now ++ behind.now }
@@ -74,7 +71,7 @@ impl Piece {
     }
 }
 
-/// Writes these bytes from a place on.
+/// Writes these bytes over those from `at` on.
 pub fn copy_at(to: &mut [u8], at: usize, bytes: &[u8])
     requires { at + length bytes.now ≤ length to.old }
     ensures { to.new ≡ take at to.old ++ (bytes.now ++ drop (at + length bytes.now) to.old) }

@@ -1,4 +1,4 @@
-ghost use Rattle.std.specs.Prelude.{◌≡◌, ◌++◌, ◌∷◌, ◌<◌, ◌≤◌, ◌+◌, ◌%◌, [], length, map, drop, Some, None, Ok, MatchOption, OnOk, OnErr, IfOk};
+ghost use Rattle.std.specs.Prelude.{◌≡◌, ◌++◌, ◌∷◌, ◌<◌, ◌≤◌, ◌+◌, ◌%◌, [], length, map, drop, Some, None, Ok, true, false, MatchOption, OnOk, OnErr, IfOk};
 ghost use Rattle.ts_packet.specs.Packets.{parse_packet, view};
 ghost use Rattle.section_stream.specs.Pieces.{packets_of, rest_of};
 ghost use Rattle.section_stream.specs.Rules.{one_more, at_start, up};
@@ -14,17 +14,16 @@ use carousel_profile::PACKET_LENGTH;
 use oc_bytes::NoMemory;
 use std::alloc::Global;
 use std::marker::Model;
-use ts_packet::{Packet, parse};
+use ts_packet::{Packet, parse, parse_plain};
 
-/// What is kept of the packets of one PID: the last that counts, the open section and the counts.
+/// What is kept of the packets of one PID.
 #[derive(Drop)]
 pub struct Receiver {
     alloc: Global,
     pid: u16,
-    /// The last packet that had the PID and a payload and was no duplicate. Before the first it is all
-    /// zeros, which is no packet.
+    /// The last packet that was taken; before the first, zeros, which are no packet.
     last: [u8; PACKET_LENGTH],
-    /// The counter of that packet, and where its payload begins in it, or 188 before the first.
+    /// The counter of `last`, and the index of its payload; before the first, 188.
     counter: u8,
     payload_at: usize,
     opened: OpenSection,
@@ -50,13 +49,11 @@ impl Model for Receiver {
 /// What a packet is to the receiver of one PID.
 #[derive(Clone, Copy)]
 enum Class<'a> {
-    /// It is counted, and nothing else.
     Aside(Aside),
-    /// It is taken; whether packets before it are missing.
+    /// It is taken. Packets before it are missing, or not.
     Taken(Packet<'a>, bool),
 }
 
-/// The continuity counter after this one.
 #[inline]
 fn counter_after(counter: u8) -> u8
     ensures { result ≡ (counter + 1) % 16 }
@@ -64,19 +61,17 @@ fn counter_after(counter: u8) -> u8
     ((u16::from(counter) + 1) % 16) as u8
 }
 
-/// What stands in a packet from a place on.
 #[inline]
-fn from_place(packet: &[u8; PACKET_LENGTH], place: usize) -> &[u8]
-    requires { place ≤ PACKET_LENGTH }
-    ensures { result.now ≡ drop place packet.now }
+fn bytes_from(packet: &[u8; PACKET_LENGTH], at: usize) -> &[u8]
+    requires { at ≤ PACKET_LENGTH }
+    ensures { result.now ≡ drop at packet.now }
 {
-    &packet[place..]
+    &packet[at..]
 }
 
 impl Receiver {
     ghost use Rattle.section_stream.specs.Inner.Classes.{IsClass};
 
-    /// A receiver of the PID `pid` that has had no packet. It reserves all the memory that it keeps.
     pub fn new(alloc: Global, pid: u16) -> Result<Receiver, NoMemory>
         ensures { IfOk result (λ r. r ≡ at_start pid) }
     {
@@ -91,7 +86,6 @@ impl Receiver {
         })
     }
 
-    /// Becomes as another one is. It takes no memory.
     pub fn copy(&mut self, from: &Receiver)
         ensures { self.new ≡ from.now }
     {
@@ -103,9 +97,8 @@ impl Receiver {
         self.counts = from.counts;
     }
 
-    /// The whole packets at the front of some bytes, one after another, with their candidates after those
-    /// in `out`; gives the bytes after them. After out of memory, which comes only where they complete a
-    /// section, some of the packets were taken.
+    /// Takes the whole packets of `bytes` and answers the bytes after them. If memory runs out, some
+    /// of the packets were taken.
     pub fn take_all<'a>(
         &mut self,
         bytes: &'a [u8],
@@ -126,10 +119,48 @@ impl Receiver {
         Ok(rest)
     }
 
-    /// One packet by the receiver's rules, with its candidates after those in `out`. After out of memory,
-    /// which comes only where it has any, the packet isn't taken.
+    /// Takes one packet and answers its candidates.
+    #[inline]
+    pub fn feed(&mut self, packet: &[u8; PACKET_LENGTH]) -> Result<Vec<Vec<u8>>, NoMemory>
+        ensures ok { IfOk result (λ out.
+            Gives (rules.step self.old packet.now) self.new [] (map view_bytes out.items)) }
+        ensures memory { OnErr result (Completes (rules.step self.old packet.now)) }
+        ensures err { OnErr result (self.new ≡ self.old) }
+    {
+        let mut out = Vec::new(self.alloc);
+        self.step(packet, &mut out)?;
+        Ok(out)
+    }
+
+    /// Takes one packet and appends its candidates to `out`. Packets of other PIDs and those in the
+    /// middle of a section have a short path.
     #[inline]
     pub fn step(
+        &mut self,
+        packet: &[u8; PACKET_LENGTH],
+        out: &mut Vec<Vec<u8>>,
+    ) -> Result<(), NoMemory>
+        ensures ok { OnOk result
+            (Gives (rules.step self.old packet.now) self.new (map view_bytes out.old.items)
+            (map view_bytes out.new.items)) }
+        ensures memory { OnErr result (Completes (rules.step self.old packet.now)) }
+        ensures err { OnErr result (self.new ≡ self.old) }
+    {
+        if let Some(fields) = parse_plain(packet) {
+            if fields.pid != self.pid {
+                count_aside(&mut self.counts, Aside::OtherPid);
+                return Ok(());
+            }
+            if self.goes_on_quickly(packet, fields) {
+                return Ok(());
+            }
+        }
+        self.step_by_class(packet, out)
+    }
+
+    /// `step` without the short path.
+    #[inline(never)]
+    fn step_by_class(
         &mut self,
         packet: &[u8; PACKET_LENGTH],
         out: &mut Vec<Vec<u8>>,
@@ -149,20 +180,40 @@ impl Receiver {
         }
     }
 
-    /// The counter and the payload of the packet that was kept, if there was one.
+    /// Takes a packet that follows the last one and only makes the open section longer.
+    #[inline]
+    fn goes_on_quickly(&mut self, packet: &[u8; PACKET_LENGTH], fields: Packet<'_>) -> bool
+        requires packet { parse_packet packet.now ≡ Ok (view fields) }
+        requires payload { fields.payload.now ≡ drop 4 packet.now }
+        requires pid { fields.pid ≡ self.old.pid }
+        ensures taken { result ≡ true → rules.step self.old packet.now ≡ (self.new, []) }
+        ensures left { result ≡ false → self.new ≡ self.old }
+    {
+        if fields.start
+            || fields.counter != counter_after(self.counter)
+            || !self.opened.grow_within(fields.payload)
+        {
+            return false;
+        }
+        count_packet(&mut self.counts, false);
+        self.last = *packet;
+        self.counter = fields.counter;
+        self.payload_at = 4;
+        true
+    }
+
     #[inline]
     fn last_kept(&self) -> Option<(u8, &[u8])>
         ensures { MatchOption result (self.now.last ≡ None) (λ l.
             self.now.last ≡ Some (l.0, l.1.now)) }
     {
         if self.payload_at < PACKET_LENGTH {
-            Some((self.counter, from_place(&self.last, self.payload_at)))
+            Some((self.counter, bytes_from(&self.last, self.payload_at)))
         } else {
             None
         }
     }
 
-    /// What a packet is, by the packet that was kept before it.
     #[inline]
     fn classify<'a>(&self, packet: &'a [u8; PACKET_LENGTH]) -> Class<'a>
         ensures { IsClass self.now packet.now result }
@@ -186,8 +237,7 @@ impl Receiver {
         Class::Taken(fields, fields.counter != counter_after(counter))
     }
 
-    /// Takes a packet that isn't passed over. Nothing but counts changes before all memory is there, and they are
-    /// as they were where it isn't.
+    /// Takes a packet by its payload. If memory runs out, it takes back the counts.
     #[inline]
     fn take(
         &mut self,
@@ -196,9 +246,11 @@ impl Receiver {
         jumped: bool,
         out: &mut Vec<Vec<u8>>,
     ) -> Result<(), NoMemory>
+        // What the packet is:
         requires packet { parse_packet packet.now ≡ Ok (view fields) }
         requires payload { (0 < length fields.payload.now) × (length fields.payload.now ≤ 184) }
         requires jumped { rules.jumps_from fields.counter self.old.last ≡ jumped }
+        // What it does:
         ensures ok { OnOk result
             (Gives (rules.takes (one_more self.old) (view fields.entry)) self.new
             (map view_bytes out.old.items) (map view_bytes out.new.items)) }
@@ -231,14 +283,12 @@ impl Receiver {
         }
     }
 
-    /// What was counted so far.
     pub fn counts(&self) -> Counts
         ensures { result ≡ self.now.counts }
     {
         self.counts
     }
 
-    /// Counts a last piece that is shorter than a packet.
     pub fn short(&mut self)
         ensures { self.new
             ≡ record self.old

@@ -35,6 +35,10 @@ parse_packet bytes =
           else (if control bytes == 3 then drop (5 + slice_index bytes 4) bytes else []);
     })))))
 
+-- no fault, and a payload right after the header of four bytes
+abbrev pub is_plain : List ℕ → Bool
+is_plain bytes = (slice_index bytes 0 == 0x47) && ((slice_index bytes 1 / 128 == 0) && (slice_index bytes 3 / 16 == 1))
+
 abbrev pub bit_of : Bool → ℕ
 bit_of b = cond b 1 0
 

@@ -1,5 +1,5 @@
-//! Transport packets (ISO/IEC 13818-1, 2.4.3.2): 188 bytes with a header of four, an adaptation
-//! field that may be absent, and a payload that may be empty.
+//! Transport packets (ISO/IEC 13818-1, 2.4.3.2): a header of four bytes, an adaptation field or
+//! none, and a payload that may be empty.
 //!
 //! ```
 //! use ts_packet::{PacketFault, build, parse};
@@ -13,8 +13,8 @@
 //! ```
 #![tactic(auto)]
 
-ghost use Rattle.std.specs.Prelude.{◌≡◌, ◌<◌, ◌≤◌, Err, IfOk, MatchResult, Ok, length, slice_index, ◌+◌, ◌==◌, [], drop, if◌then◌else◌};
-ghost use Rattle.ts_packet.specs.Packets.{view, control, parse_packet, packet_bytes};
+ghost use Rattle.std.specs.Prelude.{◌≡◌, ◌<◌, ◌≤◌, Err, IfOk, MatchOption, MatchResult, Ok, true, false, length, slice_index, ◌+◌, ◌*◌, ◌/◌, ◌%◌, ◌==◌, [], drop, if◌then◌else◌};
+ghost use Rattle.ts_packet.specs.Packets.{view, control, is_plain, parse_packet, packet_bytes};
 ghost use Rattle.ts_packet.specs.Fates.{arrival_of, flip_bit};
 
 use carousel_profile::PACKET_LENGTH;
@@ -23,24 +23,23 @@ use thiserror::Error;
 /// The first byte of each packet.
 const SYNC: u8 = 0x47;
 
-/// The most bytes that an adaptation field has after its length where a payload follows: one byte
-/// is left for that payload.
+/// The greatest adaptation field length before a payload, which has at least one byte.
 const MOST_ADAPTATION: u8 = 182;
 
-/// What a packet says to a receiver of sections, with its payload borrowed from the packet's bytes.
+/// What a packet says to a receiver of sections.
 #[derive(Clone, Copy, Debug)]
 pub struct Packet<'a> {
     /// The packet identifier, 0 to 8,191.
     pub pid: u16,
-    /// The payload unit start indicator: a section begins in this payload, after a pointer field.
+    /// The payload unit start indicator: a section begins in this payload.
     pub start: bool,
     /// The continuity counter, 0 to 15.
     pub counter: u8,
-    /// The bytes after the header and the adaptation field, 0 to 184 of them.
+    /// The 0 to 184 bytes after the header and the adaptation field.
     pub payload: &'a [u8],
 }
 
-/// Why 188 bytes are no packet that can be read. The faults are looked for in this order.
+/// Why 188 bytes aren't a packet that can be read. The first fault in this order counts.
 #[derive(Clone, Copy, Debug, PartialEq, Eq, Error)]
 pub enum PacketFault {
     /// The first byte isn't 0x47.
@@ -49,35 +48,32 @@ pub enum PacketFault {
     /// The transport error indicator is set.
     #[error("the transport_error_indicator is set")]
     Errored,
-    /// The transport scrambling control isn't 00: the payload is scrambled.
+    /// The transport scrambling control isn't 00.
     #[error("the payload is scrambled")]
     Scrambled,
-    /// The adaptation field control is 00, which is reserved.
+    /// The adaptation field control is 00.
     #[error("the adaptation_field_control is 00, which is reserved")]
     Reserved,
-    /// A payload is announced after an adaptation field whose length is above 182 bytes.
+    /// The adaptation field leaves no room for the payload.
     #[error("the adaptation field before the payload has more than 182 bytes")]
     BadField,
 }
 
-/// What happens to one packet on its way from the sender to the receiver.
+/// What happens to one packet on its way to the receiver.
 #[derive(Clone, Copy, Debug, PartialEq, Eq)]
 pub enum Fate {
     /// It arrives unchanged.
     Keep,
     /// It doesn't arrive.
     Lose,
-    /// It arrives with one bit inverted: this bit modulo 1,504, counted from the most significant bit
-    /// of the packet's first byte.
+    /// It arrives with one bit inverted: this one modulo 1,504, from the first byte's top bit on.
     Flip(u16),
 }
 
-/// The bits of a packet of 188 bytes.
 const PACKET_BITS: u16 = 8 * PACKET_LENGTH as u16;
 
 impl Fate {
-    /// What arrives of a packet with this fate, if it arrives. It takes no memory: a packet that is changed is changed in a
-    /// copy, and `packet` stays as it is. Fates are this project's own.
+    /// What arrives of a packet, if it arrives.
     pub fn arrived(self, packet: &[u8; PACKET_LENGTH]) -> Option<[u8; PACKET_LENGTH]>
         ensures { result ≡ arrival_of self packet.now }
     {
@@ -89,7 +85,6 @@ impl Fate {
     }
 }
 
-/// The packet with one bit inverted, counted from the most significant bit of the first byte.
 fn with_bit_flipped(packet: [u8; PACKET_LENGTH], bit: u16) -> [u8; PACKET_LENGTH]
     requires { bit < PACKET_BITS }
     ensures { result ≡ flip_bit bit packet }
@@ -99,11 +94,8 @@ fn with_bit_flipped(packet: [u8; PACKET_LENGTH], bit: u16) -> [u8; PACKET_LENGTH
     bytes
 }
 
-/// The fields of the packet in `bytes`, or its first fault in the order of `PacketFault`
-/// (ISO/IEC 13818-1, 2.4.3.2 to 2.4.3.5).
-///
-/// The payload is empty where the adaptation field control is 10, whatever the adaptation field's
-/// length is then. It takes no memory.
+/// Reads the packet in `bytes`, or its first fault (ISO/IEC 13818-1, 2.4.3.2 to 2.4.3.5). If the
+/// adaptation field control is 10, the payload is empty, whatever that field's length is.
 pub fn parse(bytes: &[u8; PACKET_LENGTH]) -> Result<Packet<'_>, PacketFault>
     ensures grammar { MatchResult result (λ p. parse_packet bytes.now ≡ Ok (view p)) (λ fault.
         parse_packet bytes.now ≡ Err fault) }
@@ -126,15 +118,50 @@ pub fn parse(bytes: &[u8; PACKET_LENGTH]) -> Result<Packet<'_>, PacketFault>
     if control == 3 && bytes[4] > MOST_ADAPTATION {
         return Err(PacketFault::BadField);
     }
-    Ok(Packet {
-        pid: u16::from(bytes[1] & 0x1F) << 8 | u16::from(bytes[2]),
-        start: bytes[1] & 0x40 != 0,
-        counter: bytes[3] & 0x0F,
-        payload: payload_of(bytes),
-    })
+    Ok(with_payload(bytes, payload_of(bytes)))
 }
 
-/// The bytes after the header and the adaptation field of a packet without a fault.
+/// Reads a packet as `parse` does, but only one with neither a fault nor an adaptation field.
+#[inline]
+pub fn parse_plain(bytes: &[u8; PACKET_LENGTH]) -> Option<Packet<'_>>
+    ensures { MatchOption result (is_plain bytes.now ≡ false) (λ p.
+        (is_plain bytes.now ≡ true) × (parse_packet bytes.now ≡ Ok (view p))
+        × (p.payload.now ≡ drop 4 bytes.now)) }
+{
+    let header = header_of(bytes);
+    if header >> 23 != u32::from(SYNC) << 1 || header >> 4 & 15 != 1 {
+        return None;
+    }
+    Some(with_payload(bytes, &bytes[4..]))
+}
+
+/// The header as one number.
+#[inline]
+fn header_of(bytes: &[u8; PACKET_LENGTH]) -> u32
+    ensures { result
+        ≡ slice_index bytes.now 0 * 16777216 + slice_index bytes.now 1 * 65536
+        + slice_index bytes.now 2 * 256 + slice_index bytes.now 3 }
+{
+    u32::from_be_bytes([bytes[0], bytes[1], bytes[2], bytes[3]])
+}
+
+/// The fields of the header, with this payload.
+#[inline]
+fn with_payload<'a>(bytes: &[u8; PACKET_LENGTH], payload: &'a [u8]) -> Packet<'a>
+    ensures pid { result.pid ≡ slice_index bytes.now 1 % 32 * 256 + slice_index bytes.now 2 }
+    ensures start { result.start ≡ (slice_index bytes.now 1 / 64 % 2 == 1) }
+    ensures counter { result.counter ≡ slice_index bytes.now 3 % 16 }
+    ensures payload { result.payload.now ≡ payload.now }
+{
+    let header = header_of(bytes);
+    Packet {
+        pid: (header >> 8 & 0x1FFF) as u16,
+        start: header >> 22 & 1 == 1,
+        counter: (header & 0x0F) as u8,
+        payload,
+    }
+}
+
 fn payload_of(bytes: &[u8]) -> &[u8]
     requires whole { length bytes.now ≡ PACKET_LENGTH }
     requires field { control bytes.now ≡ 3 → slice_index bytes.now 4 ≤ 182 }
@@ -149,10 +176,9 @@ fn payload_of(bytes: &[u8]) -> &[u8]
     }
 }
 
-/// A packet without an adaptation field, with the error indicator, the priority and the scrambling
-/// control 0.
+/// A packet of nothing but a header and a payload, without error, priority or scrambling.
 ///
-/// `pid` is 0 to 8,191 and `counter`, the continuity counter, 0 to 15. It takes no memory.
+/// `pid` is 0 to 8,191 and `counter`, the continuity counter, 0 to 15.
 pub fn build(pid: u16, start: bool, counter: u8, payload: &[u8; 184]) -> [u8; PACKET_LENGTH]
     requires pid { pid < 8192 }
     requires counter { counter < 16 }

@@ -1,7 +1,8 @@
 -- The parts of one packet's step, as the code goes through them.
-use Rattle.std.specs.Prelude.{◌≡◌, ℕ, ◌<◌, ◌≤◌, Bool, if◌then◌else◌, List, [], ◌∷◌, ◌++◌, length, take, Option, Some, None, IsSome}
+use Rattle.std.specs.Prelude.{◌≡◌, ℕ, ◌+◌, ◌<◌, ◌≤◌, Bool, if◌then◌else◌, List, [], ◌∷◌, ◌++◌, length, take, Option, Some, None, IsSome}
 use Rattle.carousel_profile.specs.declared.TheConstants.{PACKET_LENGTH}
-use Rattle.oc_bytes.specs.declared.lengths.TheConstants.{MOST_SECTION}
+use Rattle.oc_bytes.specs.declared.lengths.TheConstants.{MOST_LENGTH, MOST_SECTION}
+use Rattle.oc_bytes.specs.Numbers.{section_length}
 use Rattle.section_stream.specs.Cuts.{Bytes}
 use Rattle.section_stream.specs.Rules.{After, Receiving, Grown, Growing, Oversize, Whole, count_fault, goes_on, open_on, starts, up, with_out}
 use Rattle.section_stream.specs.declared.counts.Counts.{Counts}
@@ -37,6 +38,19 @@ pub record IsWhole (opened : Option Bytes) (more : Bytes) (n : ℕ) : Type 0 whe
   pub is_open : IsSome opened
   pub within : n ≤ length (bytes_of opened ++ more)
   pub most : n ≤ MOST_SECTION
+
+-- the bytes of a section that has so many more
+pub record Lacks (bytes : Bytes) (n : ℕ) : Type 0 where
+  pub known : 3 ≤ length bytes
+  pub fits : section_length bytes ≤ MOST_LENGTH
+  pub lacks : length bytes + n ≡ 3 + section_length bytes
+
+-- a section is open whose length is known, and it lacks more than so many bytes
+pub record LacksMore (opened : Option Bytes) (n : ℕ) : Type 0 where
+  pub is_open : IsSome opened
+  pub known : 3 ≤ length (bytes_of opened)
+  pub fits : section_length (bytes_of opened) ≤ MOST_LENGTH
+  pub lacks : length (bytes_of opened) + n < 3 + section_length (bytes_of opened)
 
 -- the part of the step is done: this is open, these candidates came, and so much is counted
 pub record HasDone (after : After) (left : Option Bytes) (before candidates : List Bytes) (counts : Counts) : Type 0 where

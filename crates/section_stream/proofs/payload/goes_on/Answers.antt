@@ -32,9 +32,9 @@ hand_over-requires-clause-whole c =
 
 pub returns-in_ok-hand_over-in-Whole-clause-done : goal.returns-in_ok-hand_over-in-Whole-clause-done
 returns-in_ok-hand_over-in-Whole-clause-done c =
-    goes_whole c.args.opened.now _ c.in-Some.bytes.now c.args.payload.now _ c.in-Whole.n c.len-place.result _ _ _
+    goes_whole c.args.opened.now _ c.in-Some.bytes.now c.args.payload.now _ c.in-Whole.n c.len-index.result _ _ _
     (still_open c.args.jumped c.args.opened.now c.in-Some.bytes.now (sym c.in-Some.ensures)) (sym c.in-Some.ensures) (sym c.in-Whole.ensures)
-    (length_items c.args.out.now.items _ _ c.len-place.ensures c.args.out.now.ok.0) c.in_ok-hand_over-in-Whole.ensures.out c.in_ok-hand_over-in-Whole.ensures.closed
+    (length_items c.args.out.now.items _ _ c.len-index.ensures c.args.out.now.ok.0) c.in_ok-hand_over-in-Whole.ensures.out c.in_ok-hand_over-in-Whole.ensures.closed
 
 pub returns-in_err-hand_over-in-Whole-clause-memory : goal.returns-in_err-hand_over-in-Whole-clause-memory
 returns-in_err-hand_over-in-Whole-clause-memory c = on_err _ (goes_out _ c.in-Some.bytes.now c.args.payload.now _ c.in-Whole.n (sym c.in-Some.ensures) (sym c.in-Whole.ensures))

@@ -20,8 +20,8 @@ returns-clause-out c =
     let same = kept_bytes _ _ _ c.self.view_is c.requires.whole.is_open in
     let room = c.insert.ensures.succeeds (omega (arith, c.in_ok-reserve.ensures.ok)) in
     let lacks : c.saturating_sub-missing.result ≡ c.args.n - length c.self.inside.bytes.items = omega (arith, c.saturating_sub-missing.ensures, c.len-had.ensures) in
-    put_at c.args.out.now.items c.exchange-section.result c.args.place _ _
-    (inserted _ c.args.out.now.items _ _ c.args.place c.exchange-section.result c.insert.ensures.items room c.reserve.ensures.items)
+    put_at c.args.out.now.items c.exchange-section.result c.args.index _ _
+    (inserted _ c.args.out.now.items _ _ c.args.index c.exchange-section.result c.insert.ensures.items room c.reserve.ensures.items)
     (c.exchange-section.ensures.section ∙ c.truncate.ensures.items ∙ ap (take c.args.n) c.append.ensures.items
     ∙ front_of_two c.args.n c.saturating_sub-missing.result c.self.inside.bytes.items c.args.more.now lacks
     ∙ ap (λ (b : Bytes). take c.args.n (b ++ c.args.more.now)) same)

@@ -1,22 +1,18 @@
-use Rattle.std.proofs.Common.{[], ap, map}
-use Rattle.section_stream.specs.Kept.{view_bytes}
-use Rattle.section_stream.proofs.Completing.{on_err, step_completes}
-use Rattle.section_stream.proofs.Feeding.{feed_stands, feed_cuts, feed_pid, feed_short}
+use Rattle.std.proofs.Common.{[]}
+use Rattle.section_stream.proofs.Completing.{fed}
 use Rattle.section_stream.proofs.packet_demux.PacketDemux.feed.Goals as goal
 
 pub returns-clause-stands : goal.returns-clause-stands
-returns-clause-stands c =
-    feed_stands c.args.self.now c.self.inside.receiver c.step.new.self [] c.args.packet.now _ _ c.self.view_is (ap (map view_bytes) c.new-out.ensures.items) c.in_ok-step.ensures.ok
-
-pub returns-clause-cuts : goal.returns-clause-cuts
-returns-clause-cuts c =
-    feed_cuts c.args.self.now c.self.inside.receiver c.step.new.self [] c.args.packet.now _ _ c.self.view_is (ap (map view_bytes) c.new-out.ensures.items) c.in_ok-step.ensures.ok
+returns-clause-stands c = (fed c.args.self.now c.self.inside.receiver c.feed.new.self [] c.args.packet.now _ c.self.view_is c.feed.ensures.ok c.feed.ensures.memory).stands
 
 pub returns-clause-pid : goal.returns-clause-pid
-returns-clause-pid c = feed_pid c.args.self.now c.self.inside.receiver c.step.new.self [] c.args.packet.now _ _ c.self.view_is c.in_ok-step.ensures.ok
+returns-clause-pid c = (fed c.args.self.now c.self.inside.receiver c.feed.new.self [] c.args.packet.now _ c.self.view_is c.feed.ensures.ok c.feed.ensures.memory).pid
 
 pub returns-clause-short : goal.returns-clause-short
-returns-clause-short c = feed_short c.args.self.now c.self.inside.receiver c.step.new.self [] c.args.packet.now _ _ c.self.view_is c.in_ok-step.ensures.ok
+returns-clause-short c = (fed c.args.self.now c.self.inside.receiver c.feed.new.self [] c.args.packet.now _ c.self.view_is c.feed.ensures.ok c.feed.ensures.memory).short
 
-pub returns-in_err-step-clause-completes : goal.returns-in_err-step-clause-completes
-returns-in_err-step-clause-completes c = on_err _ (step_completes c.args.self.now c.self.inside.receiver [] c.args.packet.now c.self.view_is c.in_err-step.ensures.memory)
+pub returns-clause-cuts : goal.returns-clause-cuts
+returns-clause-cuts c = (fed c.args.self.now c.self.inside.receiver c.feed.new.self [] c.args.packet.now _ c.self.view_is c.feed.ensures.ok c.feed.ensures.memory).cuts
+
+pub returns-clause-completes : goal.returns-clause-completes
+returns-clause-completes c = (fed c.args.self.now c.self.inside.receiver c.feed.new.self [] c.args.packet.now _ c.self.view_is c.feed.ensures.ok c.feed.ensures.memory).completes
