@@ -3,6 +3,7 @@ pub mod Outputs
 pub mod Short
 pub mod Feeding
 pub mod Pieces
+pub mod Parting
 pub mod Bytes
 pub mod Opening
 pub mod Taking

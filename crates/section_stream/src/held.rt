@@ -1,6 +1,7 @@
 ghost use Rattle.std.specs.Prelude.{◌≡◌, ◌<◌, ◌≤◌, ◌+◌, ◌++◌, [], length, not};
 ghost use Rattle.section_stream.specs.Packing.{is_none};
 
+use crate::parts::Parts;
 use crate::piece::Piece;
 use std::marker::Model;
 
@@ -53,19 +54,20 @@ impl Held {
         self.tail < self.bytes.len()
     }
 
-    pub fn append(&mut self, section: &[u8])
+    pub fn append(&mut self, section: &Parts)
         requires { length self.old.tail + length self.old.body + length section.now < 183 }
         ensures { self.new ≡ record { tail = self.old.tail; body = self.old.body ++ section.now } }
     {
-        self.bytes.append(section);
+        section.append_to(&mut self.bytes);
     }
 
     /// Holds back the last bytes of a begun section alone.
-    pub fn replace(&mut self, tail: &[u8])
+    pub fn replace(&mut self, tail: &Parts)
         requires { length tail.now < 183 }
         ensures { self.new ≡ record { tail = tail.now; body = [] } }
     {
-        self.bytes.replace(tail);
+        self.bytes.replace(&[]);
+        tail.append_to(&mut self.bytes);
         self.tail = tail.len();
     }
 }

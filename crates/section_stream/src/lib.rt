@@ -24,6 +24,7 @@ mod limits;
 mod mux;
 mod open_section;
 mod packet_demux;
+mod parts;
 mod payload;
 mod piece;
 mod receiver;

@@ -4,4 +4,4 @@ use Rattle.section_stream.proofs.mux.payload_of.Goals as goal
 
 pub returns : goal.returns
 returns c =
-    three_writes c.args.pointer.now c.args.held.now c.args.front.now c.copy_at.new.to c.copy_at-2.new.to _ (omega (arith, c.requires)) c.copy_at.ensures c.copy_at-2.ensures c.copy_at-3.ensures
+    three_writes c.args.pointer.now c.args.held.now c.args.front.now c.copy_at.new.to c.copy_at-2.new.to _ (omega (arith, c.requires)) c.copy_at.ensures c.copy_at-2.ensures c.copy_to.ensures
