@@ -4,9 +4,11 @@ ghost use Rattle.std.specs.List.{All};
 ghost use Rattle.path_tree.specs.Paths.{Bytes};
 ghost use Rattle.path_resolver.specs.Resolving.{is_shared};
 ghost use Rattle.path_resolver.specs.Shots as shots;
+ghost use Rattle.generation.specs.Layouts.{section_of, AreItemsOf};
 ghost use Rattle.section_stream.specs.Kept.{view_bytes};
 ghost use Rattle.section_stream.specs.Packing.{IsSectionLike, after_finish, last_of};
 ghost use Rattle.section_stream.specs.Cuts.{candidates};
+ghost use Rattle.section_stream.specs.Groups.{packets_of_group};
 ghost use Rattle.tuner_core.specs.Stands as tuning;
 ghost use Rattle.tuner_core.specs.LookBack.{answer_after, snapshot_after};
 ghost use Rattle.carousel_world.specs.Fates.{fate_of, received_under};
@@ -15,7 +17,10 @@ ghost use Rattle.carousel_world.specs.Inner.DownView.{Hears};
 ghost use Rattle.carousel_world.specs.Receptions.{label_after};
 ghost use Rattle.cycle_planner.specs.declared.TheConstants.{MOST_DRAWN};
 
+use crate::encoder::Encoder;
 use carousel_profile::PACKET_LENGTH;
+use cycle_planner::Item;
+use generation::Generation;
 use oc_bytes::NoMemory;
 use path_resolver::{Answer, Holding, Shot};
 use path_tree::Path;
@@ -26,11 +31,13 @@ use std::sync::Arc;
 use ts_packet::Fate;
 use tuner_core::Tuner;
 
-/// The way from a broadcaster to a receiver, and that receiver: sections are packed, each packet meets its fate, and what arrives
-/// is cut into candidates and held. In memory, and this project's own.
+/// The most items of a draw whose sections are in memory at once.
+const PIECE: usize = 1024;
+
+/// The way from a broadcaster to a receiver, and that receiver. Sections are packed, each packet
+/// meets its fate, and what arrives is cut into candidates and held.
 ///
-/// Contracts see its packer, its demultiplexer, its receiver and whether it is spent. The relation `DownlinkStands` says of which
-/// groups of sections and received packets that is.
+/// `DownlinkStands` says which groups of sections and received packets its parts stand for.
 #[derive(Drop)]
 pub struct Downlink {
     alloc: Global,
@@ -48,7 +55,7 @@ impl Model for Downlink {
     ghost view = { λ d. record { mux = d.mux; demux = d.demux; tuner = d.tuner; spent = d.spent } };
 }
 
-/// The fate of a packet by its number in a draw, counted from 0: the list goes round, and an empty one keeps all.
+/// The list goes round, and an empty one keeps all.
 fn fate_at(fates: &[Fate], number: u64) -> Fate
     ensures { result ≡ fate_of fates.now number }
 {
@@ -59,7 +66,7 @@ fn fate_at(fates: &[Fate], number: u64) -> Fate
 }
 
 impl Downlink {
-    /// A downlink on the PID `pid`, 0 to 8,191, over which nothing was carried. Out of memory is the only refusal.
+    /// A downlink on a PID, 0 to 8,191.
     pub fn new(alloc: Global, pid: u16) -> Result<Downlink, NoMemory>
         requires { pid < 8192 }
         ensures { IfOk result (λ d. DownlinkStands d pid [] [] []) }
@@ -86,13 +93,12 @@ impl Downlink {
         self.spent
     }
 
-    /// Sends sections of a draw: makes their packets, the first of which is packet number `from` of the draw, gives each its fate,
-    /// and receives what arrives. Packet number i has the fate at place i modulo the number of fates, and is kept where there are
-    /// none. Answers the number of the packet after them. `last` says that no further section of the draw follows: a draw is a group,
-    /// and what is held back of it is sent then.
+    /// Sends sections of a draw, and answers the number of the next packet; the first is number
+    /// `from`, at most 2^40. Packet i has the fate at place i modulo their number, or is kept if
+    /// there are none.
     ///
-    /// There are at most [`cycle_planner::MOST_DRAWN`] sections, each as `Mux::packets` asks, and `from` is at most 2^40. Nothing is asked for a packet
-    /// but what it completes. Out of memory is the only refusal; the downlink is spent then, and each later call answers it.
+    /// A draw is a group. `last` ends it: what is held back is sent too. Out of memory spends the
+    /// downlink.
     pub fn carry(
         &mut self,
         sections: &[Vec<u8>],
@@ -100,9 +106,12 @@ impl Downlink {
         from: u64,
         last: bool,
     ) -> Result<u64, NoMemory>
+        // What is sent can be numbered and packed.
         requires few { length sections.now ≤ MOST_DRAWN }
         requires sections { All (λ s. IsSectionLike s.items) sections.now }
         requires from { from ≤ 2 ^ 40 }
+
+        // The next number, and the downlink after it.
         ensures number { IfOk result (λ n.
             n ≡ from + length (packets_given self.old.mux (map view_bytes sections.now) last)) }
         ensures stands { OnOk result ((pid : ℕ) (groups : List (List Bytes))
@@ -116,6 +125,8 @@ impl Downlink {
             (packets_given self.old.mux (map view_bytes sections.now) last)))) }
         ensures mux { OnOk result
             (self.new.mux ≡ past_given self.old.mux (map view_bytes sections.now) last) }
+
+        // Out of memory, now and from then on.
         ensures spent { OnErr result (self.new.spent ≡ true) }
         ensures stays { self.old.spent ≡ true → IsErr result }
     {
@@ -129,7 +140,6 @@ impl Downlink {
         carried
     }
 
-    /// The same of a downlink that works.
     fn send(
         &mut self,
         sections: &[Vec<u8>],
@@ -137,9 +147,12 @@ impl Downlink {
         from: u64,
         last: bool,
     ) -> Result<u64, NoMemory>
+        // What is sent can be numbered and packed.
         requires few { length sections.now ≤ MOST_DRAWN }
         requires sections { All (λ s. IsSectionLike s.items) sections.now }
         requires from { from ≤ 2 ^ 40 }
+
+        // The next number, and the downlink after it.
         ensures number { IfOk result (λ n.
             n ≡ from + length (packets_given self.old.mux (map view_bytes sections.now) last)) }
         ensures mux { OnOk result
@@ -162,7 +175,39 @@ impl Downlink {
         Ok(number)
     }
 
-    /// Sends what the packer held back of a draw, in these packets, and answers the number of the packet after it.
+    /// Sends the items of a draw, whose sections the encoder makes. After out of memory the
+    /// downlink is of no use.
+    pub fn send_items<E: Encoder>(
+        &mut self,
+        encoder: &E,
+        generation: &Generation,
+        items: &[Item],
+        fates: &[Fate],
+    ) -> Result<(), NoMemory>
+        requires items { AreItemsOf generation.now items.now }
+        requires few { length items.now ≤ MOST_DRAWN }
+        ensures { OnOk result ((pid : ℕ) (groups : List (List Bytes)) (packets : List Bytes)
+            → DownlinkStands self.old pid groups [] packets
+            → (let sections = map (section_of generation.now) items.now in DownlinkStands self.new
+            pid (groups ++ sections ∷ []) []
+            (packets
+            ++ received_under fates.now 0 (packets_of_group self.old.mux sections)))) }
+    {
+        let mut number = 0;
+        let mut sent = 0;
+        loop {
+            let end = items.len().min(sent + PIECE);
+            let last = end == items.len();
+            let sections = encoder.sections(generation, &items[sent..end])?;
+            number = self.carry(&sections, fates, number, last)?;
+            if last {
+                return Ok(());
+            }
+            sent = end;
+        }
+    }
+
+    /// Ends the group: sends what was held back of it. `packets` is room.
     fn send_rest(
         &mut self,
         packets: &mut Vec<[u8; PACKET_LENGTH]>,
@@ -180,7 +225,7 @@ impl Downlink {
         self.receive(packets, fates, from)
     }
 
-    /// Receives what arrives of packets, the first of which has this number, and answers the number after them.
+    /// The first packet has the number `from`. Answers the next number.
     fn receive(
         &mut self,
         packets: &[[u8; PACKET_LENGTH]],
@@ -203,7 +248,6 @@ impl Downlink {
         Ok(number)
     }
 
-    /// Receives one packet.
     fn hear(&mut self, packet: &[u8; PACKET_LENGTH]) -> Result<(), NoMemory>
         ensures mux { OnOk result (self.new.mux ≡ self.old.mux) }
         ensures hears { OnOk result (Hears self.old self.new (packet.now ∷ [])) }
@@ -212,8 +256,7 @@ impl Downlink {
         listen(&mut self.tuner, &candidates)
     }
 
-    /// A shot of what is held, with the caller's own counts `number` and `draws`. The modules are shared and not copied. Out of
-    /// memory is the only refusal, and changes nothing.
+    /// A shot of what is held, with the caller's counts. Modules are shared, not copied.
     pub fn shot(&self, number: u64, draws: u64) -> Result<Arc<Shot>, NoMemory>
         ensures numbers { IfOk result (λ s.
             ((arc_value s).number ≡ number) × ((arc_value s).draws ≡ draws)) }
@@ -225,10 +268,8 @@ impl Downlink {
         self.tuner.shot(number, draws)
     }
 
-    /// The label of what is held, and the answer to the path on it, by the rules of [`path_resolver::resolve`]: those of a shot that is
-    /// taken now, but no shot is made. A file or a folder shares the module that holds it. Out of memory is the only refusal; it comes
-    /// only where the answer is a file or a folder, and changes nothing. Of a spent downlink nothing is promised, and there is no label
-    /// where no DII is held.
+    /// The label of what is held, and the answer to the path on it, by the rules of
+    /// [`path_resolver::resolve`]. Nothing is promised of a spent downlink.
     pub fn open(&self, path: &Path) -> Result<(Option<u64>, Answer), NoMemory>
         ensures label { IfOk result (λ opened.
             (pid : ℕ) (groups : List (List Bytes)) (begun packets : List Bytes)
@@ -248,7 +289,6 @@ impl Downlink {
     }
 }
 
-/// Feeds candidates to a receiver.
 fn listen(tuner: &mut Tuner, candidates: &[Vec<u8>]) -> Result<(), NoMemory>
     ensures { OnOk result ((before : List Bytes)
         → tuning.StandsFor tuner.old before

@@ -1,24 +1,17 @@
 ghost use Rattle.std.specs.Prelude.{◌≡◌, ◌<◌, ◌≤◌, ◌*◌, ◌++◌, ◌∷◌, [], List, ℕ, map, length, true, IfOk, IsErr, OnOk, OnErr};
 ghost use Rattle.std.specs.List.{All};
-ghost use Rattle.path_tree.specs.Paths.{Bytes};
 ghost use Rattle.cycle_planner.specs.Weights.{AreWeights};
-ghost use Rattle.generation.specs.Layouts.{section_of, AreItemsOf};
-ghost use Rattle.section_stream.specs.Kept.{view_bytes};
-ghost use Rattle.section_stream.specs.Packing.{IsSectionLike};
-ghost use Rattle.section_stream.specs.Groups.{packets_of_group};
-ghost use Rattle.carousel_world.specs.DownView.{DownlinkStands};
 ghost use Rattle.carousel_world.specs.Events.{view, Step, Commit, Draw, Open};
 ghost use Rattle.carousel_world.specs.Promises.{MeetsHeadline, world_after};
-ghost use Rattle.carousel_world.specs.Fates.{received_under};
 ghost use Rattle.carousel_world.specs.World.{WorldState, InRange, AsksForMemory, initial_world, reply_to};
 ghost use Rattle.cycle_planner.specs.declared.TheConstants.{MOST_DRAWN};
 
 use crate::downlink::Downlink;
+use crate::encoder::OneByOne;
 use crate::event::{Event, Reply};
 use crate::laws::every_run_meets_the_headline;
 use carousel_profile::CAROUSEL_PID;
-use cycle_planner::{Item, Weigh};
-use generation::Generation;
+use cycle_planner::Weigh;
 use generation_catalogue::{Batch, CommitFault, DrawFault, Journal};
 use oc_bytes::NoMemory;
 use path_tree::{Edits, Path};
@@ -27,9 +20,6 @@ use ts_packet::Fate;
 
 /// The PID on which a world sends.
 const PID: u16 = CAROUSEL_PID;
-
-/// The most items of a draw whose sections are in memory at once.
-const PIECE: usize = 1024;
 
 /// A broadcaster of one carousel and a receiver, one event after another.
 #[derive(Drop)]
@@ -44,9 +34,8 @@ pub struct World {
 impl World {
     ghost use Rattle.carousel_world.specs.View.{kept_in, StandsFor, IsLeft, Follows, FollowsAll, IsReply, AreReplies, WantsMemory};
 
-    /// The world of a carousel, any 32-bit id, whose modules are sent as often as they weigh, and in which nothing has happened:
-    /// generation 0 with the empty tree, and a receiver that has heard nothing. The weights are 1 to 8, as those of each `Weigh` are.
-    /// Out of memory is the only refusal.
+    /// The world of a carousel, any 32-bit id, in which nothing has happened: generation 0 is
+    /// empty, and the receiver has heard nothing. Modules are sent as often as they weigh, 1 to 8.
     pub fn new(alloc: Global, carousel: u32, weigh: Weigh) -> Result<World, NoMemory>
         requires { AreWeights weigh.weights }
         ensures { IfOk result (λ w. StandsFor (kept_in w) (initial_world carousel weigh.weights)) }
@@ -59,16 +48,18 @@ impl World {
         })
     }
 
-    /// Makes one event happen, and gives its reply. Editors and readers are numbered 1 to 64, and a draw asks for 1 to [`cycle_planner::MOST_DRAWN`]
-    /// items.
+    /// Makes one event happen, and gives its reply. Editors and readers are numbered 1 to 64. A
+    /// draw asks for 1 to [`cycle_planner::MOST_DRAWN`] items.
     ///
-    /// Out of memory is the only refusal, and a world that works answers it only of an event that asks for memory: a commit where neither
-    /// the season nor the journal is full, a draw where there is room for its entry, and an open that a file or a folder answers. After it in a draw the world is spent:
-    /// each later call answers it. In another event it changes nothing.
+    /// A draw that runs out of memory spends the world: each later call answers out of memory.
     pub fn step(&mut self, event: Event) -> Result<Reply, NoMemory>
         requires { InRange (view event) }
+
+        // The reply, and the world after it.
         ensures reply { IfOk result (IsReply (kept_in self.old) (view event)) }
         ensures stands { OnOk result (Follows (kept_in self.old) (kept_in self.new) (view event)) }
+
+        // Out of memory: what it leaves, and when it comes.
         ensures left { OnErr result (IsLeft (view event) (kept_in self.old) (kept_in self.new)) }
         ensures memory { OnErr result (WantsMemory (kept_in self.old) (view event)) }
         ensures stays { (kept_in self.old).down.spent ≡ true
@@ -84,7 +75,6 @@ impl World {
         }
     }
 
-    /// A commit.
     fn commit(&mut self, editor: u32, edits: Edits) -> Result<Reply, NoMemory>
         ensures reply { IfOk result (IsReply (kept_in self.old) (Commit editor edits)) }
         ensures stands { OnOk result
@@ -99,7 +89,7 @@ impl World {
         }
     }
 
-    /// A draw. Out of memory spends the world.
+    /// Out of memory spends the world.
     fn draw(&mut self, asked: u32, fates: &[Fate]) -> Result<Reply, NoMemory>
         requires { (1 ≤ asked) × (asked ≤ MOST_DRAWN) }
         ensures reply { IfOk result (IsReply (kept_in self.old) (Draw asked fates.now)) }
@@ -115,7 +105,6 @@ impl World {
         drawn
     }
 
-    /// The same of a world that works.
     fn draw_and_send(&mut self, asked: u32, fates: &[Fate]) -> Result<Reply, NoMemory>
         requires { (1 ≤ asked) × (asked ≤ MOST_DRAWN) }
         ensures reply { IfOk result (IsReply (kept_in self.old) (Draw asked fates.now)) }
@@ -128,13 +117,9 @@ impl World {
             Err(DrawFault::DrawsFull(draws)) => return Ok(Reply::DrawsFull(draws)),
             Err(DrawFault::NoMemory) => return Err(AllocError),
         };
-        send(
-            self.alloc,
-            &mut self.downlink,
-            &batch.generation,
-            &batch.items,
-            fates,
-        )?;
+        let encoder = OneByOne { alloc: self.alloc };
+        self.downlink
+            .send_items(&encoder, &batch.generation, &batch.items, fates)?;
         Ok(Reply::Drawn {
             generation: batch.generation.number(),
             first: batch.first,
@@ -142,7 +127,6 @@ impl World {
         })
     }
 
-    /// An open.
     fn open(&self, path: &Path) -> Result<Reply, NoMemory>
         ensures reply { IfOk result (λ r.
             (w : WorldState) (reader : ℕ)
@@ -156,7 +140,7 @@ impl World {
         Ok(Reply::Opened { label, answer })
     }
 
-    /// Makes events happen in turn, and gives their replies, or out of memory at the first that finds none.
+    /// Stops at the first event that finds no memory.
     fn run_all(&mut self, events: Vec<Event>) -> Result<Vec<Reply>, NoMemory>
         requires { All InRange (map view events.items) }
         ensures replies { IfOk result (λ rs.
@@ -172,15 +156,12 @@ impl World {
         Ok(replies)
     }
 
-    /// Makes events happen in turn, and gives the reply of each. Editors and readers are numbered 1 to 64, and each draw asks for 1
-    /// to [`cycle_planner::MOST_DRAWN`] items.
-    ///
-    /// What is promised of every list of events holds of all that happened in this world: `every_run_meets_the_headline` says it.
-    ///
-    /// Out of memory is the only refusal, and a world that works answers it only of a list with an event. The world is spent after
-    /// it, and each later call answers it.
+    /// Makes events happen in turn, each as `step` does, and gives their replies. Out of memory
+    /// spends the world.
     pub fn run(&mut self, events: Vec<Event>) -> Result<Vec<Reply>, NoMemory>
         requires { All InRange (map view events.items) }
+
+        // The replies, the world after them, and the promises for all that happened in it.
         ensures replies { IfOk result (λ rs.
             AreReplies (kept_in self.old) (map view events.items) rs.items) }
         ensures stands { OnOk result
@@ -189,6 +170,8 @@ impl World {
             (carousel : ℕ) (weights : List ℕ) (before : List Step)
             → StandsFor (kept_in self.old) (world_after carousel weights before)
             → MeetsHeadline carousel weights (before ++ map view events.items)) }
+
+        // Out of memory: what it leaves, and when it comes.
         ensures spent { OnErr result ((kept_in self.new).down.spent ≡ true) }
         ensures memory { OnErr result ((w : WorldState)
             → StandsFor (kept_in self.old) w
@@ -210,8 +193,8 @@ impl World {
         }
     }
 
-    /// What is promised of every list of events holds of all that happened in this world, so of each list of events after which the
-    /// world stands as it does. Nothing is done.
+    /// What is promised of every list of events holds of all that happened in this world, so of
+    /// each list of events after which the world stands as it does. Nothing is done.
     pub fn keeps_the_headline(&self)
         ensures { (carousel : ℕ) (weights : List ℕ) (events : List Step)
             → StandsFor (kept_in self.now) (world_after carousel weights events)
@@ -219,50 +202,5 @@ impl World {
     {
         every_run_meets_the_headline();
         self.journal.entries();
-    }
-}
-
-/// The sections of some items of a generation.
-fn encode(alloc: Global, generation: &Generation, items: &[Item]) -> Result<Vec<Vec<u8>>, NoMemory>
-    requires { AreItemsOf generation.now items.now }
-    ensures sections { IfOk result (λ ss.
-        map view_bytes ss.items ≡ map (section_of generation.now) items.now) }
-    ensures like { IfOk result (λ ss. All (λ s. IsSectionLike s.items) ss.items) }
-{
-    let mut sections = Vec::with_capacity(alloc, items.len())?;
-    for item in items {
-        sections.push(generation.section(*item)?)?;
-    }
-    Ok(sections)
-}
-
-/// Sends the items of a draw, at most so many sections at once.
-fn send(
-    alloc: Global,
-    downlink: &mut Downlink,
-    generation: &Generation,
-    items: &[Item],
-    fates: &[Fate],
-) -> Result<(), NoMemory>
-    requires items { AreItemsOf generation.now items.now }
-    requires few { length items.now ≤ MOST_DRAWN }
-    ensures { OnOk result ((pid : ℕ) (groups : List (List Bytes)) (packets : List Bytes)
-        → DownlinkStands downlink.old pid groups [] packets
-        → (let sections = map (section_of generation.now) items.now in DownlinkStands downlink.new
-        pid (groups ++ sections ∷ []) []
-        (packets
-        ++ received_under fates.now 0 (packets_of_group downlink.old.mux sections)))) }
-{
-    let mut number = 0;
-    let mut sent = 0;
-    loop {
-        let end = items.len().min(sent + PIECE);
-        let last = end == items.len();
-        let sections = encode(alloc, generation, &items[sent..end])?;
-        number = downlink.carry(&sections, fates, number, last)?;
-        if last {
-            return Ok(());
-        }
-        sent = end;
     }
 }
