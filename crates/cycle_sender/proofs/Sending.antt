@@ -1,5 +1,6 @@
 -- Sections whose packets are put one after another.
 use Rattle.std.proofs.Common.{◌≡◌, List, [], ◌∷◌, ◌++◌, map, ◌∙◌, sym, ap, subst, append_assoc, append-nil}
+use Rattle.std.specs.Prelude.{Result, Ok, Err, OnOk}
 use Rattle.std.specs.List.{All, concat, fold}
 use Rattle.std.proofs.lemmas.List.Folds.{concat-append}
 use Rattle.std.proofs.lemmas.List.Sums.{fold-append}
@@ -43,6 +44,16 @@ sending_more f start mux next all old new x put o n s =
     subst (λ m. IsSending f start m all new (put ++ concat (packets_of mux (f x)))) (sym n)
     (record { packs = sym (packs_first mux (f x) (map f new) put) ∙ from.packs; counts = from.counts })
 
+-- some of the packets are kept rather than put
+pub sending_as : {X : Type 0} (f : X → Bytes) (start mux : MuxState) (all left : List X) (a b : Bytes) → a ≡ b → IsSending f start mux all left a → IsSending f start mux all left b
+sending_as f start mux all left a b e s = subst (λ bs. IsSending f start mux all left bs) e s
+
+pub kept_more : (put : Bytes) (old more made : List Bytes) → made ≡ old ++ more → (put ++ concat old) ++ concat more ≡ put ++ concat made
+kept_more put old more made e = append_assoc put (concat old) (concat more) ∙ ap (λ bs. put ++ bs) (sym (concat-append old more) ∙ ap concat (sym e))
+
+pub put_more : (put part : Bytes) (made new : List Bytes) → part ++ concat new ≡ concat made → put ++ concat made ≡ (put ++ part) ++ concat new
+put_more put part made new e = ap (λ bs. put ++ bs) (sym e) ∙ sym (append_assoc put part (concat new))
+
 -- no item is left
 pub sending_ends : {X : Type 0} (f : X → Bytes) (start mux : MuxState) (all left : List X) (put : Bytes) → left ≡ [] → IsSending f start mux all left put
     → (put ≡ concat (packets_of_all start (map f all))) × (mux ≡ fold past start (map f all))
@@ -63,10 +74,11 @@ counts_group start mux group between like e = ap after_finish e ∙ (calls_give 
 
 -- ---- as the steps of the code have it
 
--- the packets that were put into the emptied room are those of the section
-pub packets_are : (mux : MuxState) (cleared made lent : List Bytes) (given s : Bytes) → lent ≡ made → made ≡ cleared ++ packets_of mux given → cleared ≡ [] → given ≡ s → lent ≡ packets_of mux s
-packets_are mux cleared made lent given s a b c d = a ∙ b ∙ ap (λ ps. ps ++ packets_of mux given) c ∙ ap (packets_of mux) d
-
--- the packet that was put into it is the one of the group's end
+-- the packet that was put into the emptied room is the one of the group's end
 pub last_is : (mux : MuxState) (cleared made lent : List Bytes) → lent ≡ made → made ≡ cleared ++ last_of mux → cleared ≡ [] → lent ≡ last_of mux
 last_is mux cleared made lent a b c = a ∙ b ∙ ap (λ ps. ps ++ last_of mux) c
+
+-- a fact of whatever the call answers
+pub on_ok : {T E X : Type 0} (r : Result T E) → X → OnOk r X
+on_ok (Ok x) fact = fact
+on_ok (Err e) fact = tt
