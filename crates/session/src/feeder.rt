@@ -1,11 +1,7 @@
 //! What the feeder does.
 ghost use Rattle.std.specs.Prelude.{◌≡◌, ◌++◌, ◌∷◌, ◌+◌, ◌≤◌, [], List, ℕ, map, length, OnOk, All};
 ghost use Rattle.std.specs.Arc.{arc_value};
-ghost use Rattle.path_tree.specs.Paths.{Bytes};
-ghost use Rattle.generation.specs.Layouts.{section_of, AreItemsOf};
-ghost use Rattle.section_stream.specs.Groups.{packets_of_group};
-ghost use Rattle.carousel_world.specs.DownView.{DownlinkStands};
-ghost use Rattle.carousel_world.specs.Fates.{received_under};
+ghost use Rattle.generation.specs.Layouts.{AreItemsOf};
 ghost use Rattle.carousel_world.specs.World.{Drawing};
 ghost use Rattle.shot_board.specs.Showers.{shown_by, most_by, IsSameBoard, HasRoomFor};
 ghost use Rattle.station.specs.Passes.{IsStationPass};
@@ -15,7 +11,7 @@ ghost use Rattle.session.specs.Seats.{HasFed, DidFeed, IsDrawLine, draw_of};
 ghost use Rattle.session.specs.Inner.Seats.{drawing_in};
 ghost use Rattle.cycle_planner.specs.declared.TheConstants.{MOST_DRAWN};
 
-use carousel_world::{Downlink, Fate};
+use carousel_world::{Downlink, Encoder, Fate};
 use cycle_planner::Item;
 use generation::Generation;
 use generation_catalogue::Batch;
@@ -29,19 +25,30 @@ use std::mem;
 use std::sync::Wait;
 use std::thread::Threads;
 
-/// The most items of a draw whose sections are in memory at once.
-const PIECE: usize = 1024;
+/// Two workers make the sections at once, and pass the gate.
+#[derive(Drop)]
+struct Workers<'a, R, G> {
+    rt: &'a R,
+    alloc: Global,
+    gate: &'a G,
+}
 
-/// A draw that the feeder has still to make.
+impl<R: Threads + Sync, G: Gate> Encoder for Workers<'_, R, G> {
+    fn sections(&self, generation: &Generation, items: &[Item]) -> Result<Vec<Vec<u8>>, NoMemory> {
+        encode_batch(self.rt, self.alloc, generation, items, self.gate)
+    }
+}
+
+/// A draw that the feeder has to make.
 #[derive(Drop)]
 pub struct DrawLine {
-    /// How many items are asked for, 1 to [`cycle_planner::MOST_DRAWN`].
+    /// The number of items, 1 to [`cycle_planner::MOST_DRAWN`].
     pub asked: u32,
-    /// What becomes of the draw's packets.
+    /// What becomes of its packets.
     pub fates: Vec<Fate>,
 }
 
-/// The feeder's pass and downlink, the draws that it has still to make, and the fates of those that it has made.
+/// The feeder's pass and downlink, the draws to make, and the fates of those made.
 #[derive(Drop)]
 pub struct FeederSeat {
     pub pass: Pass,
@@ -51,9 +58,7 @@ pub struct FeederSeat {
     pub whole: bool,
 }
 
-/// Sends what was drawn, at most so many sections at once, each packet with its fate, and shows the next shot.
-///
-/// Out of memory is the only refusal; the downlink is of no use then.
+/// Sends what was drawn, and shows the next shot.
 pub(crate) fn send_and_show<R: Threads + Wait + Sync, G: Gate>(
     rt: &R,
     alloc: Global,
@@ -63,9 +68,12 @@ pub(crate) fn send_and_show<R: Threads + Wait + Sync, G: Gate>(
     batch: &Batch,
     fates: &[Fate],
 ) -> Result<(), NoMemory>
+    // The items can be sent, and the board has room.
     requires items { AreItemsOf (arc_value batch.now.generation) batch.now.items.items }
     requires few { length batch.now.items.items ≤ MOST_DRAWN }
     requires room { length (shown_by shower.old) ≤ most_by shower.old }
+
+    // The board shows one shot more.
     ensures board { IsSameBoard shower.old shower.new }
     ensures count { OnOk result (length (shown_by shower.new) ≡ length (shown_by shower.old) + 1) }
     ensures shown { OnOk result ((drawings : List Drawing)
@@ -78,8 +86,9 @@ pub(crate) fn send_and_show<R: Threads + Wait + Sync, G: Gate>(
         items,
         ..
     } = batch;
-    send(rt, alloc, gate, downlink, generation, items, fates)?;
-    // The next number is one that the board may show, so it is there.
+    let workers = Workers { rt, alloc, gate };
+    downlink.send_items(&workers, generation, items, fates)?;
+    // The board may show the next number, so it is there.
     let Some(number) = shower.front().number().checked_add(1) else {
         return Err(AllocError);
     };
@@ -90,41 +99,8 @@ pub(crate) fn send_and_show<R: Threads + Wait + Sync, G: Gate>(
     }
 }
 
-/// Sends the items of a draw, which are a group, at most so many sections at once.
-fn send<R: Threads + Sync, G: Gate>(
-    rt: &R,
-    alloc: Global,
-    gate: &G,
-    downlink: &mut Downlink,
-    generation: &Generation,
-    items: &[Item],
-    fates: &[Fate],
-) -> Result<(), NoMemory>
-    requires items { AreItemsOf generation.now items.now }
-    requires few { length items.now ≤ MOST_DRAWN }
-    ensures { OnOk result ((pid : ℕ) (groups : List (List Bytes)) (packets : List Bytes)
-        → DownlinkStands downlink.old pid groups [] packets
-        → (let sections = map (section_of generation.now) items.now in DownlinkStands downlink.new
-        pid (groups ++ sections ∷ []) []
-        (packets
-        ++ received_under fates.now 0 (packets_of_group downlink.old.mux sections)))) }
-{
-    let mut number = 0;
-    let mut sent = 0;
-    loop {
-        let end = items.len().min(sent + PIECE);
-        let last = end == items.len();
-        let sections = encode_batch(rt, alloc, generation, &items[sent..end], gate)?;
-        number = downlink.carry(&sections, fates, number, last)?;
-        if last {
-            return Ok(());
-        }
-        sent = end;
-    }
-}
-
-/// Makes one draw, sends it, and shows the next shot. Out of memory is the only refusal; it also comes where [`generation_catalogue::MOST_DRAWS`] draws are
-/// entered.
+/// Makes one draw, sends it, and shows the next shot. Out of memory also comes if
+/// [`generation_catalogue::MOST_DRAWS`] draws are entered.
 pub(crate) fn draw<R: Threads + Wait + Sync, G: Gate>(
     rt: &R,
     alloc: Global,
@@ -134,12 +110,17 @@ pub(crate) fn draw<R: Threads + Wait + Sync, G: Gate>(
     seat: &mut FeederSeat,
     line: DrawLine,
 ) -> Result<(), NoMemory>
+    // The seat is one of the station, and the board has room.
     requires pass { IsStationPass station.now seat.old.pass }
     requires line { IsDrawLine line }
     requires room { length (shown_by shower.old) ≤ most_by shower.old }
+
+    // What stays.
     ensures pass { IsStationPass station.now seat.new.pass }
     ensures rest { (seat.new.draws ≡ seat.old.draws) × (seat.new.whole ≡ seat.old.whole) }
     ensures board { IsSameBoard shower.old shower.new }
+
+    // One draw more was made and shown.
     ensures count { OnOk result (length (shown_by shower.new) ≡ length (shown_by shower.old) + 1) }
     ensures fed { OnOk result ((lines : List DrawFields)
         → HasFed station.now lines seat.old (shown_by shower.old)
@@ -154,7 +135,7 @@ pub(crate) fn draw<R: Threads + Wait + Sync, G: Gate>(
     Ok(())
 }
 
-/// Makes the draws of a seat, in order, and shows a shot after each. The feeder passes the gate before each, with steps counted from 0.
+/// Makes a seat's draws in order, and passes the gate before each; steps count from 0.
 pub(crate) fn feed<R: Threads + Wait + Sync, G: Gate>(
     rt: &R,
     alloc: Global,
