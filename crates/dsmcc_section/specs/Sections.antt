@@ -59,6 +59,10 @@ Reads bytes s = frames.IsFrame MOST_LENGTH (table_id s.table) bytes (frame s)
 abbrev pub spelling : Fields → List ℕ
 spelling s = frames.spelling (table_id s.table) (frame s)
 
+-- the bytes of the spelling before the CRC
+abbrev pub before_crc : Fields → List ℕ
+before_crc s = frames.prefix_with (table_id s.table) 0 3 3 (frame s)
+
 -- the fields of a section of this table that takes all of the bytes
 abbrev pub fields_of : Table → List ℕ → Fields
 fields_of table bytes =

@@ -62,7 +62,9 @@ pub fn frame_of(bytes: &[u8]) -> Frame<'_>
     }
 }
 
-fn header_bytes(id: u8, header: &Header, front: &[u8], rest: &[u8]) -> [u8; 8]
+/// The eight bytes before a body, which is `front` and then `rest`. `header.version` is 0 to 31, and
+/// the body has at most 4,084 bytes.
+pub fn header_bytes(id: u8, header: &Header, front: &[u8], rest: &[u8]) -> [u8; 8]
     requires version { header.now.version < 32 }
     requires room { length front.now + length rest.now + 9 ≤ MOST_LENGTH }
     ensures front { prefix_with id 0 3 3 (fields_with header.now (front.now ++ rest.now))
