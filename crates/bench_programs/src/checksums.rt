@@ -8,7 +8,8 @@ const PLACES: usize = 16;
 /// The most bytes of a piece whose CRC is compared.
 const LONGEST: usize = 9_000;
 
-/// The CRCs of `rounds` pieces of at most `length` bytes, joined by exclusive or. Piece k begins at byte k % 16.
+/// The CRCs of `rounds` pieces of at most `length` bytes, joined by exclusive or. Piece k begins at
+/// byte k % 16.
 pub fn joined(bytes: &[u8], rounds: u32, length: usize) -> u32 {
     let mut joined = 0;
     for round in 0..rounds as usize {
@@ -18,7 +19,8 @@ pub fn joined(bytes: &[u8], rounds: u32, length: usize) -> u32 {
     joined
 }
 
-/// How many pieces of 0 to 9,000 bytes, from each of the first 16 bytes on, have the CRC that bits one after another give.
+/// How many pieces of 0 to 9,000 bytes, from each of the first 16 bytes on, have the CRC that bits
+/// one after another give.
 pub fn agreeing(bytes: &[u8]) -> u64 {
     let mut agree: u64 = 0;
     for first in 0..PLACES {

@@ -1,32 +1,39 @@
-//! What the scripts under bench/ measure or try from inside. The first word says which work, and what is printed shows that it
-//! was done.
+//! What the scripts under bench/ measure or try from inside. The first word says which work, and
+//! what is printed shows that it was done.
 //!
-//! `crc ROUNDS LENGTH`: each round takes the CRC of LENGTH bytes of standard input, or of all where LENGTH is 0. Round k begins
-//! at byte k % 16. What is printed is the CRCs of all rounds, joined by exclusive or.
+//! `crc ROUNDS LENGTH`: each round takes the CRC of LENGTH bytes of standard input, or of all where
+//! LENGTH is 0. Round k begins at byte k % 16. What is printed is the CRCs of all rounds, joined by
+//! exclusive or.
 //!
-//! `crc-bits`: compares the CRC of each piece of 0 to 9,000 bytes of standard input, from each of its first 16 bytes on, with the
-//! CRC that bits one after another give. What is printed is how many agree.
+//! `crc-bits`: compares the CRC of each piece of 0 to 9,000 bytes of standard input, from each of
+//! its first 16 bytes on, with the CRC that bits one after another give. What is printed is how
+//! many agree.
 //!
-//! `commits FILES BYTES COMMITS`: the first commit puts so many files of so many bytes, each with other bytes, and a small file
-//! of 4 bytes; each of the others puts 4 other bytes as the small file. With no commit, only the edits of the first are made.
-//! What is printed is how many commits were accepted.
-//!
-//! `station commits EDITORS ROUNDS`: in each round 1 to 64 editors make 16,000 commits in all, at once on one station; with 0
-//! editors, on a catalogue with no lock. Each commit puts 8 bytes as the same file. What is printed is how many commits
+//! `commits FILES BYTES COMMITS`: the first commit puts so many files of so many bytes, each with
+//! other bytes, and a small file of 4 bytes; each of the others puts 4 other bytes as the small
+//! file. With no commit, only the edits of the first are made. What is printed is how many commits
 //! were accepted.
 //!
-//! `station sections WORKERS ROUNDS`: in each round the sections of one batch of 1,024 items are made, by one worker where
-//! WORKERS is 1, else by two at once. What is printed is how many bytes they have.
+//! `station commits EDITORS ROUNDS`: in each round 1 to 64 editors make 16,000 commits in all, at
+//! once on one station; with 0 editors, on a catalogue with no lock. Each commit puts 8 bytes as
+//! the same file. What is printed is how many commits were accepted.
 //!
-//! `opens READERS ROUNDS STALLED`: in each round 1 to 32 readers make 120,000 opens in all, by turns of a file, of its folder and
-//! of a name that isn't there, while a feeder shows one shot after another until all of them are through. Of further readers, 0 to
-//! 32, each has opened one path and stands still with the shot that it took. What is printed is how many opens of the others
-//! answered the file.
+//! `station sections WORKERS ROUNDS`: in each round the sections of one batch of 1,024 items are
+//! made, by one worker where WORKERS is 1, else by two at once. What is printed is how many bytes
+//! they have.
 //!
-//! `session SEED`: plays the session of the script on standard input, as the program's command does, but at a gate at which each thread
-//! yields, spins or goes on by chance. What is printed, also on standard error, and the status are those of the command.
+//! `opens READERS ROUNDS STALLED`: in each round 1 to 32 readers make 120,000 opens in all, by
+//! turns of a file, of its folder and of a name that isn't there, while a feeder shows one shot
+//! after another until all of them are through. Of further readers, 0 to 32, each has opened one
+//! path and stands still with the shot that it took. What is printed is how many opens of the
+//! others answered the file.
 //!
-//! `each`: a little of `crc`, `commits`, `station commits` and `opens`, one after another, which the gate runs.
+//! `session SEED`: plays the session of the script on standard input, as the program's command
+//! does, but at a gate at which each thread yields, spins or goes on by chance. What is printed,
+//! also on standard error, and the status are those of the command.
+//!
+//! `each`: a little of `crc`, `commits`, `station commits` and `opens`, one after another, which
+//! the gate runs.
 #![tactic(auto)]
 
 mod checksums;
@@ -96,7 +103,8 @@ fn input(rt: &HostRuntime) -> io::Result<Vec<u8>> {
     Ok(bytes)
 }
 
-/// Takes CRCs of standard input, of `length` bytes each or of all where that is 0, and prints them joined.
+/// Takes CRCs of standard input, of `length` bytes each or of all where that is 0, and prints them
+/// joined.
 fn print_crc(rt: &HostRuntime, rounds: u32, length: u32) -> io::Result<()> {
     let bytes = input(rt)?;
     let length = if length == 0 {

@@ -23,7 +23,8 @@ pub struct Request {
     pub stalled: u32,
 }
 
-/// The readers and the feeder at once. Where no thread can be had the readers come first, and the feeder shows nothing.
+/// The readers and the feeder at once. Where no thread can be had the readers come first, and the
+/// feeder shows nothing.
 fn open_and_show<R: Threads + Wait + Sync>(
     rt: &R,
     alloc: Global,
@@ -47,7 +48,8 @@ fn open_and_show<R: Threads + Wait + Sync>(
     );
 }
 
-/// How many opens of so many readers with these viewers answered a file, while the others stand still.
+/// How many opens of so many readers with these viewers answered a file, while the others stand
+/// still.
 fn opened_before<R: Threads + Wait + Sync>(
     rt: &R,
     alloc: Global,

@@ -11,8 +11,8 @@ use std::sync::atomic::{AtomicU64, Ordering};
 use std::thread::Threads;
 use std::{hint, thread};
 
-/// A gate at which a thread yields, spins or goes on, by a number made of the seed, of the actor and its step, and of how often anybody
-/// passed before.
+/// A gate at which a thread yields, spins or goes on, by a number made of the seed, of the actor
+/// and its step, and of how often anybody passed before.
 #[derive(Drop)]
 struct UnevenGate {
     seed: u64,
@@ -45,7 +45,8 @@ fn mixed(first: u64, second: u64) -> u64 {
     number ^ (number >> 32)
 }
 
-/// Yields up to 8 times, spins up to 16,384 times, or does nothing, as the number says. Short spins are as likely as long ones.
+/// Yields up to 8 times, spins up to 16,384 times, or does nothing, as the number says. Short spins
+/// are as likely as long ones.
 fn delay(number: u64) {
     match number % 4 {
         0 => yield_often(1 << (number / 4 % 4)),
@@ -66,8 +67,9 @@ fn spin(times: u64) {
     }
 }
 
-/// Plays the session of the script in the source at such a gate, as the program's command `session` does it: with its weights, its
-/// report, its line on standard error, and its status, which is the answer.
+/// Plays the session of the script in the source at such a gate, as the program's command `session`
+/// does it: with its weights, its report, its line on standard error, and its status, which is the
+/// answer.
 pub fn play<R: Threads + Wait + Sync + Eprint, S: Source, K: Sink>(
     rt: &R,
     alloc: Global,

@@ -16,7 +16,8 @@ use std::thread::Threads;
 /// How many commits a round has in all. A catalogue takes at most 16,383.
 const COMMITS: u32 = 16_000;
 
-/// The edits of an editor's commit of this number: a put of 8 bytes, which name both, as the one file that all editors put.
+/// The edits of an editor's commit of this number: a put of 8 bytes, which name both, as the one
+/// file that all editors put.
 fn put(alloc: Global, editor: u32, number: u32) -> Option<Vec<Edit>> {
     let path = Path::parse(alloc, b"/file").ok()?;
     let mut bytes = Vec::new(alloc);
@@ -44,8 +45,8 @@ fn commit<R: Wait>(rt: &R, alloc: Global, station: &Station, pass: &mut Pass, nu
     is_accepted(station.commit(rt, pass, edits))
 }
 
-/// The commits of one of so many editors, as far as there is memory for them. The feeder's pass, which is the last, makes
-/// none.
+/// The commits of one of so many editors, as far as there is memory for them. The feeder's pass,
+/// which is the last, makes none.
 fn edit<R: Wait>(rt: &R, alloc: Global, station: &Station, pass: &mut Pass, editors: u32)
     requires { IsStationPass station.now pass.old }
     ensures { IsStationPass station.now pass.new }
@@ -103,7 +104,8 @@ fn accepted_once<R: Threads + Wait + Sync>(
     Ok(station.close(passes).current().number())
 }
 
-/// How many commits were accepted in so many rounds, by so many editors on one station after another.
+/// How many commits were accepted in so many rounds, by so many editors on one station after
+/// another.
 pub fn accepted_by<R: Threads + Wait + Sync>(
     rt: &R,
     alloc: Global,

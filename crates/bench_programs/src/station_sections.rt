@@ -112,7 +112,8 @@ fn bytes_alone(
     Ok(bytes)
 }
 
-/// How many bytes the sections of the batch have, which two workers at once make so many times over.
+/// How many bytes the sections of the batch have, which two workers at once make so many times
+/// over.
 pub fn made_by_two<R: Threads + Sync>(rt: &R, alloc: Global, rounds: u32) -> Result<u64, NoMemory> {
     let batch = first_batch(alloc)?;
     bytes_by_two(rt, alloc, &batch.generation, &batch.items, rounds)

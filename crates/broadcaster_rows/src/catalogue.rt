@@ -13,8 +13,9 @@ use path_tree::Edit;
 use std::alloc::Global;
 use test_rows::{Line, Row, RowFault};
 
-/// The answer, where the row is a new catalogue of a carousel and what is done to it, each deed with its answer: `state`, `commit` with
-/// an editor and edits, `draw` and `sections` with the number of items, and `entry` with a place.
+/// The answer, where the row is a new catalogue of a carousel and what is done to it, each deed
+/// with its answer: `state`, `commit` with an editor and edits, `draw` and `sections` with the
+/// number of items, and `entry` with a place.
 pub(crate) fn call(alloc: Global, row: &Row<'_>) -> Option<Line> {
     match row.name() {
         "catalogue" => Some(done(alloc, row)),
@@ -22,8 +23,8 @@ pub(crate) fn call(alloc: Global, row: &Row<'_>) -> Option<Line> {
     }
 }
 
-/// What each deed answers, in a catalogue in which module 1 weighs 2, and every other one 1. Neither it nor a commit leaves this
-/// function, since it holds a boxed closure.
+/// What each deed answers, in a catalogue in which module 1 weighs 2, and every other one 1.
+/// Neither it nor a commit leaves this function, since it holds a boxed closure.
 fn done(alloc: Global, row: &Row<'_>) -> Line {
     let mut weights = [1; GREATEST_ID];
     weights[0] = 2;

@@ -29,7 +29,8 @@ impl<'a> Standing<'a> {
         }
     }
 
-    /// The answer, where the row is a call on folders. `real` before the call's own name is one on real folders.
+    /// The answer, where the row is a call on folders. `real` before the call's own name is one on
+    /// real folders.
     pub(crate) fn call(&mut self, alloc: Global, row: &Row<'_>) -> Option<Line> {
         match row.name() {
             "folders" => Some(self.begin(alloc, row)),

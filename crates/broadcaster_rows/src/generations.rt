@@ -125,7 +125,8 @@ impl Told for (u16, u32) {
     }
 }
 
-/// Puts of so many files of so many zero bytes: the words are the front of their paths, how many they are, and their size.
+/// Puts of so many files of so many zero bytes: the words are the front of their paths, how many
+/// they are, and their size.
 fn files(alloc: Global, row: &Row<'_>) -> Vec<Edit> {
     let mut edits = Vec::new(alloc);
     match zeros(alloc, row.count(2)) {

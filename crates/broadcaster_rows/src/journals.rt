@@ -54,7 +54,8 @@ fn call_on(alloc: Global, row: &Row<'_>, journal: &mut Journal) -> Option<Line> 
     }
 }
 
-/// Puts of so many files of so many zero bytes in the root, each with a name of one byte, from `0` on.
+/// Puts of so many files of so many zero bytes in the root, each with a name of one byte, from `0`
+/// on.
 fn puts(alloc: Global, row: &Row<'_>) -> Vec<Edit> {
     let mut edits = Vec::new(alloc);
     match zeros(alloc, row.count(2)) {
@@ -76,7 +77,8 @@ fn put_byte(alloc: Global, byte: u32, content: &Blob) -> Result<Edit, RowFault> 
     put_shared(alloc, text.as_bytes(), content)
 }
 
-/// Commits edits of the editor that a row says: the number of the generation that they make, or why they make none.
+/// Commits edits of the editor that a row says: the number of the generation that they make, or why
+/// they make none.
 fn commit(row: &Row<'_>, journal: &mut Journal, edits: Vec<Edit>) -> Line {
     let outcome = journal.commit_edits(row.long(0), Edits::new(edits));
     outcome_text(row.line(), &outcome)

@@ -1,5 +1,6 @@
-//! What the crates of the broadcaster answer. A row is a call's name and its words; the answer stands in its place. What a row
-//! makes anew (`generation-new`, `journal-new`, `folders`), the rows behind it are calls on; a catalogue and a world are rows of their own.
+//! What the crates of the broadcaster answer. A row is a call's name and its words; the answer
+//! stands in its place. What a row makes anew (`generation-new`, `journal-new`, `folders`), the
+//! rows behind it are calls on; a catalogue and a world are rows of their own.
 #![tactic(auto)]
 
 mod catalogue;

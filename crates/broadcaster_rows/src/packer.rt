@@ -26,7 +26,8 @@ fn sizes(alloc: Global, row: &Row<'_>) -> Vec<u32> {
     sizes
 }
 
-/// Puts the size that a word says behind the others, and so many of it where the word is `SIZE*COUNT`.
+/// Puts the size that a word says behind the others, and so many of it where the word is
+/// `SIZE*COUNT`.
 fn push_sizes(row: &Row<'_>, word: &str, sizes: &mut Vec<u32>) {
     let (size, count) = match word.split_once('*') {
         Some(pair) => pair,
@@ -58,7 +59,8 @@ fn placed_fresh(alloc: Global, row: &Row<'_>) -> Line {
     placed(row, place_fresh(alloc, &sizes))
 }
 
-/// The modules of objects that were in modules. The second one has grown, and is too large for its old module with the first.
+/// The modules of objects that were in modules. The second one has grown, and is too large for its
+/// old module with the first.
 fn placed_kept(alloc: Global, row: &Row<'_>) -> Line {
     let grown = [
         (117, Some(1)),
@@ -70,7 +72,8 @@ fn placed_kept(alloc: Global, row: &Row<'_>) -> Line {
     placed(row, place(alloc, &grown))
 }
 
-/// The modules of objects of which some were in the greatest ones. The last one has no room beside the large one that was there, too.
+/// The modules of objects of which some were in the greatest ones. The last one has no room beside
+/// the large one that was there, too.
 fn placed_kept_high(alloc: Global, row: &Row<'_>) -> Line {
     let high = [
         (117, Some(1)),

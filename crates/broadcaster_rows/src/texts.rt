@@ -29,7 +29,8 @@ impl Told for Item {
     }
 }
 
-/// Puts an item behind what stands: `DSI`, a DII as its group, `DII/1`, and a block as its module and its number.
+/// Puts an item behind what stands: `DSI`, a DII as its group, `DII/1`, and a block as its module
+/// and its number.
 pub(crate) fn item_text(line: Line, item: Item) -> Line {
     match item {
         Item::Dsi => line.text("DSI"),

@@ -8,7 +8,8 @@ use cycle_planner::{GREATEST_ID, GREATEST_WEIGHT, Weigh};
 use std::alloc::Global;
 use test_rows::{Line, Row, RowFault};
 
-/// What a row asks. Its first two words are the weight of module 1 and that of each other module, 1 to 8.
+/// What a row asks. Its first two words are the weight of module 1 and that of each other module, 1
+/// to 8.
 #[derive(Clone, Copy, Drop)]
 enum Question {
     /// `cycle-length`: how many items the cycle has of the generation that was made last.
@@ -44,7 +45,8 @@ fn weight(row: &Row<'_>, place: usize) -> u8
     weight
 }
 
-/// The answer under the weights. What holds them doesn't leave this function, since it holds a boxed closure.
+/// The answer under the weights. What holds them doesn't leave this function, since it holds a
+/// boxed closure.
 fn weighed(alloc: Global, row: &Row<'_>, generations: &Generations, question: Question) -> Line {
     let first = weight(row, 0);
     let others = weight(row, 1);

@@ -18,8 +18,8 @@ pub(crate) fn path(alloc: Global, row: &Row<'_>, place: usize) -> Result<Path, R
     path_of(alloc, row.text(place).as_bytes())
 }
 
-/// The edits of the words from a place up to a deed: `put PATH BYTES` and `remove PATH`, of folders `mkdir PATH` and `rmdir PATH`, and
-/// `files FRONT COUNT SIZE` for so many puts.
+/// The edits of the words from a place up to a deed: `put PATH BYTES` and `remove PATH`, of folders
+/// `mkdir PATH` and `rmdir PATH`, and `files FRONT COUNT SIZE` for so many puts.
 pub(crate) fn edits(alloc: Global, row: &Row<'_>, from: usize) -> Vec<Edit> {
     let mut edits = Vec::new(alloc);
     for place in from..row.len() {
@@ -81,8 +81,9 @@ fn remove_folder(alloc: Global, row: &Row<'_>, place: usize) -> Result<Edit, Row
     Ok(Edit::RemoveFolder(path(alloc, row, place)?))
 }
 
-/// Puts of so many files behind the other edits. The words at a place are the front of their paths, which their numbers from 0 on end,
-/// how many they are, and their size. Each byte of a file is its number modulo 256.
+/// Puts of so many files behind the other edits. The words at a place are the front of their paths,
+/// which their numbers from 0 on end, how many they are, and their size. Each byte of a file is its
+/// number modulo 256.
 fn push_files(alloc: Global, row: &Row<'_>, place: usize, edits: &mut Vec<Edit>) {
     let front = row.octets(place);
     let size = row.count(place.saturating_add(2));

@@ -13,8 +13,9 @@ use path_tree::Edits;
 use std::alloc::{AllocError, Global};
 use test_rows::{Line, Row, RowFault};
 
-/// What each event of a row replies in a world: `commit` with an editor and edits, `draw` and `lose` with the number of items, and `open`
-/// with a reader and a path. Each packet of `lose` is lost. A draw is in a list of its own.
+/// What each event of a row replies in a world: `commit` with an editor and edits, `draw` and
+/// `lose` with the number of items, and `open` with a reader and a path. Each packet of `lose` is
+/// lost. A draw is in a list of its own.
 pub(crate) fn replies(alloc: Global, row: &Row<'_>, world: &mut World) -> Line {
     let mut line = row.line();
     for place in 2..row.len() {

@@ -1,8 +1,9 @@
 //! Fields that are written and read one by one, and bytes that are shared.
 //!
-//! - `writer STEP ..`: what a writer holds after the steps. A step is a number after its width, as `u16:515`, or bytes.
-//! - `fields BYTES STEP ..`: what the steps answer, which read the bytes from the front on. A step is the name of a call, and
-//!   after a colon its number, where it takes one.
+//! - `writer STEP ..`: what a writer holds after the steps. A step is a number after its width, as
+//!   `u16:515`, or bytes.
+//! - `fields BYTES STEP ..`: what the steps answer, which read the bytes from the front on. A step
+//!   is the name of a call, and after a colon its number, where it takes one.
 //! - `blob BYTES`: the bytes as a second owner sees them.
 //! - `write-fault NAME`: the text of a fault of writing.
 

@@ -1,10 +1,12 @@
 //! Control messages: the DSI and the DII.
 //!
-//! - `dsi-encode CAROUSEL MODULE KEY`: the DSI whose gateway has this key of four bytes in this module, from 1 to 2,224.
-//! - `dii-encode DOWNLOAD GENERATION GROUP COUNT`: the DII of a group in a generation, with so many modules from the group's first
-//!   id on, each of 34 bytes in version 0.
+//! - `dsi-encode CAROUSEL MODULE KEY`: the DSI whose gateway has this key of four bytes in this
+//!   module, from 1 to 2,224.
+//! - `dii-encode DOWNLOAD GENERATION GROUP COUNT`: the DII of a group in a generation, with so many
+//!   modules from the group's first id on, each of 34 bytes in version 0.
 //! - `control-decode BYTES`: the fields of a DSI or of a DII.
-//! - `transaction-dii GENERATION GROUP`: the transactionId of the DII of a group in a generation, its version and its identification.
+//! - `transaction-dii GENERATION GROUP`: the transactionId of the DII of a group in a generation,
+//!   its version and its identification.
 //! - `distance OLD NEW`: how far a version lies ahead of another.
 
 ghost use Rattle.std.specs.Prelude.{◌≡◌, ◌≤◌, ◌<◌, false, IfOk};

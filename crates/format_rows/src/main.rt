@@ -1,4 +1,5 @@
-//! What the crates of the wire formats answer. A row is a call's name and its words; the answer stands in its place.
+//! What the crates of the wire formats answer. A row is a call's name and its words; the answer
+//! stands in its place.
 #![tactic(auto)]
 
 mod blocks;

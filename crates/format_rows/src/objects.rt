@@ -45,8 +45,9 @@ fn file_of(alloc: Global, row: &Row<'_>, key: &Key) -> Line
     row.line().outcome(encode_file(alloc, key, &content))
 }
 
-/// `object-folder KIND KEY`: the message of a folder without bindings; and with NAME SIZE KEY behind it that of a folder with
-/// one binding, of a file or, where the size is `-`, of a folder. Both lie in module 1 of carousel 1.
+/// `object-folder KIND KEY`: the message of a folder without bindings; and with NAME SIZE KEY
+/// behind it that of a folder with one binding, of a file or, where the size is `-`, of a folder.
+/// Both lie in module 1 of carousel 1.
 fn folder(alloc: Global, row: &Row<'_>) -> Line {
     match key(alloc, row.long(1)) {
         Ok(key) => folder_of(alloc, row, &key),

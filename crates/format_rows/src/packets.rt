@@ -71,8 +71,8 @@ fn starts(row: &Row<'_>) -> bool {
     }
 }
 
-/// `packet-fate BYTES FATE`: what arrives of a packet that is kept, lost, or has the bit of a number inverted: each byte that
-/// is another one, as a row's change of bytes.
+/// `packet-fate BYTES FATE`: what arrives of a packet that is kept, lost, or has the bit of a
+/// number inverted: each byte that is another one, as a row's change of bytes.
 fn arrived(row: &Row<'_>) -> Line {
     let packet = array(row, 0);
     match fate(row).arrived(&packet) {

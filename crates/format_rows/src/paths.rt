@@ -90,7 +90,8 @@ fn above(row: &Row<'_>, path: &Path) -> Line {
     }
 }
 
-/// `tree-apply EDIT..`: the files and kept folders of the tree after edits, or why they are refused.
+/// `tree-apply EDIT..`: the files and kept folders of the tree after edits, or why they are
+/// refused.
 fn applied(alloc: Global, row: &Row<'_>, tree: &mut Tree) -> Line {
     match apply(alloc, tree, edits(alloc, row).list()) {
         Ok(next) => {
@@ -118,8 +119,8 @@ fn edits(alloc: Global, row: &Row<'_>) -> Edits {
     Edits::new(edits)
 }
 
-/// An edit: a path and what is put there after `=`, or a path whose file is removed; after `+` the path of a folder that is made, and
-/// after `-` that of one that is removed.
+/// An edit: a path and what is put there after `=`, or a path whose file is removed; after `+` the
+/// path of a folder that is made, and after `-` that of one that is removed.
 fn edit(alloc: Global, text: &str) -> Result<Edit, RowFault> {
     if let Some(place) = text.strip_prefix('+') {
         return Ok(Edit::MakeFolder(path_of(alloc, place)?));
@@ -146,7 +147,8 @@ fn path_of(alloc: Global, text: &str) -> Result<Path, RowFault> {
     }
 }
 
-/// What a tree maps paths to: the path of each file, and its bytes after `=`, and the path of each kept folder with `/` behind it.
+/// What a tree maps paths to: the path of each file, and its bytes after `=`, and the path of each
+/// kept folder with `/` behind it.
 fn listed(alloc: Global, mut line: Line, tree: &Tree) -> Line {
     for (path, entry) in tree.entries() {
         line = entry_text(alloc, line.between(" ").made("", path.print()), entry);

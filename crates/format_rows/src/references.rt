@@ -1,10 +1,10 @@
 //! References to objects: IORs.
 //!
-//! - `ior-encode KIND CAROUSEL MODULE KEY`: the reference of this kind to the object with this key, each of four bytes, in a
-//!   module from 1 to 2,224.
+//! - `ior-encode KIND CAROUSEL MODULE KEY`: the reference of this kind to the object with this key,
+//!   each of four bytes, in a module from 1 to 2,224.
 //! - `ior-decode BYTES`: how many bytes the reference at the front has, its kind, and its profiles.
-//! - `ior-location BYTES`: the location that a reference has, and the transactionId of the control messages by which it is
-//!   reached.
+//! - `ior-location BYTES`: the location that a reference has, and the transactionId of the control
+//!   messages by which it is reached.
 
 ghost use Rattle.std.specs.Prelude.{◌≤◌, IfOk};
 ghost use Rattle.oc_bytes.specs.Outcome.{MakesList};
@@ -44,7 +44,8 @@ pub(crate) fn module_id(row: &Row<'_>, place: usize) -> u16
     1
 }
 
-/// The selector of the tap by which a module is reached: its type, the transactionId, and no time-out.
+/// The selector of the tap by which a module is reached: its type, the transactionId, and no
+/// time-out.
 fn selector(alloc: Global, module_id: u16) -> Result<Vec<u8>, AllocError>
     ensures { MakesList result (written_tap module_id).selector }
 {

@@ -1,11 +1,11 @@
 //! DSM-CC sections.
 //!
-//! - `section-encode TABLE EXTENSION VERSION NUMBER LAST PAYLOAD`: the section with these fields, of the table `control` or
-//!   `blocks`.
+//! - `section-encode TABLE EXTENSION VERSION NUMBER LAST PAYLOAD`: the section with these fields,
+//!   of the table `control` or `blocks`.
 //! - `section-decode BYTES`: the fields of the section that the bytes are.
 //! - `section-payload BYTES`: its table and its payload alone.
-//! - `section-inverted CAUSE BYTES`: how many of the section's bits make it refused for this cause where one alone is inverted;
-//!   where the cause is `none`, with how many it is still read.
+//! - `section-inverted CAUSE BYTES`: how many of the section's bits make it refused for this cause
+//!   where one alone is inverted; where the cause is `none`, with how many it is still read.
 
 ghost use Rattle.std.specs.Prelude.{◌<◌};
 
@@ -123,7 +123,8 @@ fn inverted_in(bytes: &mut [u8], cause: Option<Skip>) -> u32 {
     count
 }
 
-/// With how many bits of the byte at a place inverted, one at a time, the bytes are refused for this cause.
+/// With how many bits of the byte at a place inverted, one at a time, the bytes are refused for
+/// this cause.
 fn inverted_at(bytes: &mut [u8], place: usize, cause: Option<Skip>) -> u32 {
     let mut count: u32 = 0;
     for mask in [128, 64, 32, 16, 8, 4, 2, 1] {

@@ -16,7 +16,8 @@ enum Ending {
     Copies,
 }
 
-/// A word that says bytes, at the end of a line: pieces with `+` between, each of hex digits or of one byte and `*COUNT`.
+/// A word that says bytes, at the end of a line: pieces with `+` between, each of hex digits or of
+/// one byte and `*COUNT`.
 #[derive(Drop)]
 struct Spelling {
     line: Line,
@@ -58,8 +59,8 @@ impl Spelling {
     }
 }
 
-/// Puts bytes behind what stands, as a word of a row in which four or more equal bytes are one of them and their count; `-` for
-/// none.
+/// Puts bytes behind what stands, as a word of a row in which four or more equal bytes are one of
+/// them and their count; `-` for none.
 pub(crate) fn spelled(line: Line, bytes: &[u8]) -> Line {
     if bytes.is_empty() {
         return line.text("-");

@@ -41,7 +41,8 @@ fn pid(row: &Row<'_>) -> u16
 enum Feed {
     /// `demux PID PACKET..`: packets.
     Packets,
-    /// `demux-pieces PID PIECE..`: pieces of any size; the word `short` counts a last piece that is no packet.
+    /// `demux-pieces PID PIECE..`: pieces of any size; the word `short` counts a last piece that is
+    /// no packet.
     Pieces,
     /// Pieces of a size out of the bytes that the second word says.
     Chunks(usize),
@@ -141,8 +142,8 @@ fn of_packets(alloc: Global, row: &Row<'_>, demux: &mut PacketDemux) -> Vec<Vec<
     sections
 }
 
-/// `demux-cuts PID BYTES FIRST LAST`: the one answer of the bytes cut into pieces of each size from FIRST to LAST, or the
-/// first size with another one.
+/// `demux-cuts PID BYTES FIRST LAST`: the one answer of the bytes cut into pieces of each size from
+/// FIRST to LAST, or the first size with another one.
 fn cuts(alloc: Global, row: &Row<'_>) -> Line {
     let first = cut(alloc, row, row.count(2));
     for size in row.count(2)..=row.count(3) {

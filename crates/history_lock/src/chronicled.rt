@@ -1,7 +1,7 @@
 ghost use Rattle.std.specs.Prelude.{List};
 
-/// A value that stands for a list of entries, which only grows while the value is shared. An entry may be of any type: no
-/// value of it is made by the lock.
+/// A value that stands for a list of entries, which only grows while the value is shared. An entry
+/// may be of any type: no value of it is made by the lock.
 pub trait Chronicled: Send {
     /// What the list is made of.
     type Entry;

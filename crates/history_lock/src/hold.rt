@@ -19,8 +19,8 @@ impl<'a, V: Chronicled> Hold<'a, V> {
     ghost use Rattle.std.specs.Borrow.{sem};
     ghost use Rattle.history_lock.specs.Lending.{LendsValue};
 
-    /// The value. It may be changed in any way, so long as its list begins with the one that it had at the hold when it is
-    /// put back.
+    /// The value. It may be changed in any way, so long as its list begins with the one that it had
+    /// at the hold when it is put back.
     pub fn value(&mut self) -> &mut V
         ensures* writes_back { sem 𝓛 (LendsValue V.row V.Entry.row V.Chronicled self.entry result) }
         ensures value { result.now ≡ value_of self.old }
@@ -28,8 +28,8 @@ impl<'a, V: Chronicled> Hold<'a, V> {
         &mut self.value
     }
 
-    /// Gives the value back to the lock. The pass has then seen the value's whole list, and its own places have grown by
-    /// just those from the list's length at the hold on. It takes no memory.
+    /// Gives the value back to the lock. The pass has then seen the value's whole list, and its own
+    /// places have grown by just those from the list's length at the hold on. It takes no memory.
     pub fn put_back(self)
         requires own { IsHoldOf (lock_of self) self }
         requires grows { Begins (taken_of self) (V.list (value_of self)) }

@@ -1,14 +1,16 @@
-//! A lock that keeps a history: the value under it stands for a list that only grows, and whoever takes the lock finds a
-//! list that begins with all that it has seen before.
+//! A lock that keeps a history: the value under it stands for a list that only grows, and whoever
+//! takes the lock finds a list that begins with all that it has seen before.
 //!
-//! A lock is made with a number of passes. A pass is the right to hold the lock. It knows the list that it has seen, and
-//! the places of its own entries in it: those that were added while it held. `HistoryLock::hold` lends the value to one
-//! pass, `Hold::put_back` returns it, and `HistoryLock::close` takes the value out, once all passes are back. Then each
-//! entry that was added stands at a place that is one pass's own. So what each of several threads knows of its own calls
-//! can be put together to what all of them did, though no clause compares two threads while they run.
+//! A lock is made with a number of passes. A pass is the right to hold the lock. It knows the list
+//! that it has seen, and the places of its own entries in it: those that were added while it held.
+//! `HistoryLock::hold` lends the value to one pass, `Hold::put_back` returns it, and
+//! `HistoryLock::close` takes the value out, once all passes are back. Then each entry that was
+//! added stands at a place that is one pass's own. So what each of several threads knows of its own
+//! calls can be put together to what all of them did, though no clause compares two threads while
+//! they run.
 //!
-//! The value may be of any type that implements `Chronicled`; nothing here knows what an entry is. Two editors share a
-//! list of lines, to which each adds one:
+//! The value may be of any type that implements `Chronicled`; nothing here knows what an entry is.
+//! Two editors share a list of lines, to which each adds one:
 //!
 //! ```
 //! ghost use Rattle.history_lock.specs.Passes.{IsPassOf};
@@ -44,10 +46,10 @@
 //! let page = page.close(passes);
 //! ```
 //!
-//! The lock is one word, free or held, and one slot for the value, in a table of `atomic_table`. It is changed in six kinds
-//! of atomic step: the word is taken, the value is exchanged out and in, the word is released, and passes are split off and
-//! joined. Between any two steps the table keeps one rule, `specs/Inner/History.antt`. That a hold is ever got, and in
-//! which order, is not said.
+//! The lock is one word, free or held, and one slot for the value, in a table of `atomic_table`. It
+//! is changed in six kinds of atomic step: the word is taken, the value is exchanged out and in,
+//! the word is released, and passes are split off and joined. Between any two steps the table keeps
+//! one rule, `specs/Inner/History.antt`. That a hold is ever got, and in which order, is not said.
 #![tactic(auto)]
 
 mod chronicled;

@@ -28,8 +28,9 @@ impl<V: Chronicled> HistoryLock<V> {
     ghost use Rattle.history_lock.specs.Passes.{IsPassOf, AreAllPassesOf, AreFresh, seats_of, opening_of, seen_of, own_of, number_of, owners};
     ghost use Rattle.history_lock.specs.Inner.Passes.{HasAll};
 
-    /// A lock over `value`, with as many passes as `seats`, which is 1 or more. They are numbered from 0 on, in order; each
-    /// has seen the value's list and has no own places. Out of memory is the only refusal, and gives the value back.
+    /// A lock over `value`, with as many passes as `seats`, which is 1 or more. They are numbered
+    /// from 0 on, in order; each has seen the value's list and has no own places. Out of memory is
+    /// the only refusal, and gives the value back.
     pub fn new(
         alloc: Global,
         value: V,
@@ -63,8 +64,8 @@ impl<V: Chronicled> HistoryLock<V> {
         }
     }
 
-    /// Waits until the lock is free, and takes the value for a pass of this lock. The value's list begins with all that the
-    /// pass had seen. It takes no memory.
+    /// Waits until the lock is free, and takes the value for a pass of this lock. The value's list
+    /// begins with all that the pass had seen. It takes no memory.
     pub fn hold<'a, R: Wait>(&'a self, rt: &R, pass: &'a mut Pass<V>) -> Hold<'a, V>
         requires { IsPassOf self.now pass.old }
         ensures pass { LendsPass pass.entry result }
@@ -84,8 +85,9 @@ impl<V: Chronicled> HistoryLock<V> {
         }
     }
 
-    /// Takes the value out, against all passes of this lock. Its list begins with the one that the lock was made with, and
-    /// with what each pass has seen; each later place is one pass's own, and no other place is anyone's. It takes no memory.
+    /// Takes the value out, against all passes of this lock. Its list begins with the one that the
+    /// lock was made with, and with what each pass has seen; each later place is one pass's own,
+    /// and no other place is anyone's. It takes no memory.
     pub fn close(self, passes: Vec<Pass<V>>) -> V
         requires { AreAllPassesOf self passes.items }
         ensures opening { Begins (opening_of V.list self) (V.list result) }
@@ -124,7 +126,8 @@ impl<V: Chronicled> HistoryLock<V> {
         unreachable!()
     }
 
-    /// The passes of a new lock: each has one part of the first seat, and the last is that seat itself.
+    /// The passes of a new lock: each has one part of the first seat, and the last is that seat
+    /// itself.
     fn deal(
         &self,
         seat: Seat<Option<V>, View<V::Entry>>,

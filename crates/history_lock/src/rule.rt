@@ -8,7 +8,8 @@ use std::snapshot::Snapshot;
 
 /// What a pass knows. It exists in proofs alone; no value of it is made.
 pub struct View<E> {
-    /// Its parts of the right to close the lock: 1 of a pass, and 0 of one that was joined to another.
+    /// Its parts of the right to close the lock: 1 of a pass, and 0 of one that was joined to
+    /// another.
     pub parts: u64,
     /// It has the value.
     pub holds: bool,

@@ -45,8 +45,8 @@ impl Filling {
         }
     }
 
-    /// The module of an object that may stay in one. If it doesn't stay, it is placed; nothing comes where it would need
-    /// a module above the limit.
+    /// The module of an object that may stay in one. If it doesn't stay, it is placed; nothing
+    /// comes where it would need a module above the limit.
     pub fn settle(&mut self, size: u32, stays: Option<u16>) -> Option<u16>
         requires { (m : ℕ) → stays ≡ Some m → (1 ≤ m) × (m ≤ GREATEST_ID) }
         ensures number { (f : Filled)
@@ -101,7 +101,8 @@ impl Filling {
         self.sums[usize::from(number - 1)].unwrap_or(0)
     }
 
-    /// Whether an object stays in a module: a small one where there is room for it, a large one where nothing is.
+    /// Whether an object stays in a module: a small one where there is room for it, a large one
+    /// where nothing is.
     fn stays(&self, size: u32, number: u16) -> bool
         requires { (1 ≤ number) × (number ≤ GREATEST_ID) }
         ensures { result ≡ stays_by size (slice_index_or self.now.sums (number - 1) None) }
@@ -113,8 +114,8 @@ impl Filling {
         }
     }
 
-    /// The module for an object that doesn't stay: the least one in use that has room for it, or the least one that isn't
-    /// in use.
+    /// The module for an object that doesn't stay: the least one in use that has room for it, or
+    /// the least one that isn't in use.
     fn room_for(&self, size: u32) -> Option<u16>
         ensures { result ≡ moved_by size self.now.sums }
     {

@@ -12,19 +12,23 @@ use module_groups::GREATEST_ID;
 use oc_bytes::NoMemory;
 use std::alloc::Global;
 
-/// The module of each object, a number from 1 to [`GREATEST_ID`], where an object keeps the module that it had as long as that one
-/// doesn't grow too large.
+/// The module of each object, a number from 1 to [`GREATEST_ID`], where an object keeps the module
+/// that it had as long as that one doesn't grow too large.
 ///
 /// `objects` has each object's size in bytes, in object order, and the module that it had, if any.
 /// - Module 1 always has the first object.
-/// - Those that had a module come next, in object order. An object of up to [`ROOM`](crate::ROOM) bytes keeps its module if that one has
-///   at most `ROOM` bytes with it, and a larger object if nothing lies there yet.
-/// - What is left is placed last, in object order: up to `ROOM` bytes in the lowest numbered module that isn't empty and has
-///   at most `ROOM` bytes with it. Where there is none, and for any larger object, it is the lowest numbered empty one.
-/// - If a number above [`GREATEST_ID`] came out, no module is kept, and the answer is that of `place_fresh`.
+/// - Those that had a module come next, in object order. An object of up to [`ROOM`](crate::ROOM)
+///   bytes keeps its module if that one has at most `ROOM` bytes with it, and a larger object if
+///   nothing lies there yet.
+/// - What is left is placed last, in object order: up to `ROOM` bytes in the lowest numbered module
+///   that isn't empty and has at most `ROOM` bytes with it. Where there is none, and for any larger
+///   object, it is the lowest numbered empty one.
+/// - If a number above [`GREATEST_ID`] came out, no module is kept, and the answer is that of
+///   `place_fresh`.
 ///
-/// `objects` isn't empty, and `need` of the sizes is at most [`GREATEST_ID`]. The first object had module 1 or none, and each other one
-/// a module from 1 to [`GREATEST_ID`] or none. Out of memory is the only refusal. The rule is this project's own.
+/// `objects` isn't empty, and `need` of the sizes is at most [`GREATEST_ID`]. The first object had
+/// module 1 or none, and each other one a module from 1 to [`GREATEST_ID`] or none. Out of memory
+/// is the only refusal. The rule is this project's own.
 pub fn place(alloc: Global, objects: &[(u32, Option<u16>)]) -> Result<Vec<u16>, NoMemory>
     requires { AreObjects GREATEST_ID objects.now }
     ensures kept { MakesList result (kept_modules GREATEST_ID objects.now) }
@@ -61,8 +65,8 @@ fn stay(
     Ok(stayed)
 }
 
-/// The modules of the first object and of the others, where these stay or go: nothing where a module would be above the
-/// limit.
+/// The modules of the first object and of the others, where these stay or go: nothing where a
+/// module would be above the limit.
 fn numbers(
     alloc: Global,
     filling: &mut Filling,

@@ -56,7 +56,8 @@ impl Answers {
         }
     }
 
-    /// The answer to the path on the shot whose answers these are. It is kept, if there is memory for that.
+    /// The answer to the path on the shot whose answers these are. It is kept, if there is memory
+    /// for that.
     pub(crate) fn answer(&mut self, shot: &Shot, path: &Path) -> Result<Answer, NoMemory>
         requires { AreAnswersOn (held_of shot.now) self.old.kept.entries }
         ensures answer { IfOk result (λ answer. answer ≡ answers_of shot.now path.now) }

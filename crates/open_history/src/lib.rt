@@ -1,5 +1,5 @@
-//! A reader's passes over a board of shots: each open is answered once, on the one shot that it took. Readers take no lock
-//! and never wait.
+//! A reader's passes over a board of shots: each open is answered once, on the one shot that it
+//! took. Readers take no lock and never wait.
 //!
 //! A reader opens a path on the board's first shot, in which nothing was heard yet:
 //!

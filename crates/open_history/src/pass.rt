@@ -11,7 +11,8 @@ use shot_board::{Front, Viewer};
 use std::alloc::{AllocError, Global};
 use std::marker::Model;
 
-/// What one reader has opened, in order. It knows a list of shots, and each open is answered on one of them.
+/// What one reader has opened, in order. It knows a list of shots, and each open is answered on one
+/// of them.
 #[derive(Drop)]
 pub struct ReaderPass {
     reader: u32,
@@ -42,8 +43,9 @@ impl Model for ReaderPass {
 impl ReaderPass {
     ghost use Rattle.open_history.specs.Opens.{AllAnswered, Answered, reader_view, IsSameReader, IsBehind, SharesOnLast};
 
-    /// A pass of the reader with this number that looks at a board as `viewer` does. Memory for `room` opens, and for the
-    /// answers that it keeps, is asked for here; without it the viewer comes back.
+    /// A pass of the reader with this number that looks at a board as `viewer` does. Memory for
+    /// `room` opens, and for the answers that it keeps, is asked for here; without it the viewer
+    /// comes back.
     pub fn new(
         alloc: Global,
         reader: u32,
@@ -91,7 +93,8 @@ impl ReaderPass {
         self.answers.count()
     }
 
-    /// Tells the pass of the list of a prefix of its own board. What it knows stays. It takes no memory.
+    /// Tells the pass of the list of a prefix of its own board. What it knows stays. It takes no
+    /// memory.
     pub fn learn(&mut self, front: Front<Shot>)
         requires { front_board front ≡ self.old.board }
         ensures same { IsSameReader self.old self.new
@@ -103,8 +106,9 @@ impl ReaderPass {
         self.viewer.learn(front);
     }
 
-    /// Takes a shot, and opens nothing. Out of memory is the only refusal, and leaves what the pass knows. It comes only where the
-    /// pass stays behind a list that it was told of, as after the shower was closed.
+    /// Takes a shot, and opens nothing. Out of memory is the only refusal, and leaves what the pass
+    /// knows. It comes only where the pass stays behind a list that it was told of, as after the
+    /// shower was closed.
     pub fn look(&mut self) -> Result<(), NoMemory>
         ensures same { IsSameReader self.old self.new
             × (self.new.told ≡ self.old.told)
@@ -120,11 +124,12 @@ impl ReaderPass {
         Ok(())
     }
 
-    /// Takes a shot, resolves the whole path on it, and puts the open after the others. There has to be room for it. The
-    /// answer is the place of the open in `opens`.
+    /// Takes a shot, resolves the whole path on it, and puts the open after the others. There has
+    /// to be room for it. The answer is the place of the open in `opens`.
     ///
-    /// Out of memory is the only refusal: it gives the path back, and there is no new open. It comes only where `look` is refused,
-    /// or of a path whose answer on that shot shares what is held.
+    /// Out of memory is the only refusal: it gives the path back, and there is no new open. It
+    /// comes only where `look` is refused, or of a path whose answer on that shot shares what is
+    /// held.
     pub fn open_path(&mut self, path: Path) -> Result<usize, (NoMemory, Path)>
         requires { length self.old.opens < self.old.room }
         ensures same { IsSameReader self.old self.new × (self.new.told ≡ self.old.told) }
@@ -154,8 +159,9 @@ impl ReaderPass {
         Ok(place)
     }
 
-    /// Learns the front with the board's last shot, and takes a shot: the pass then knows just the list that was shown. Out of
-    /// memory is the only refusal, and comes only where the pass stays behind that list.
+    /// Learns the front with the board's last shot, and takes a shot: the pass then knows just the
+    /// list that was shown. Out of memory is the only refusal, and comes only where the pass stays
+    /// behind that list.
     pub fn catch_up(&mut self, front: Front<Shot>) -> Result<(), NoMemory>
         requires board { front_board front ≡ self.old.board }
         requires last { length (shots_in front) ≡ self.old.most + 1 }

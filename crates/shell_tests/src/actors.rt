@@ -109,7 +109,8 @@ fn all_read(readers: &[ReaderSeat]) -> bool {
     readers.iter().all(|seat| seat.whole)
 }
 
-/// Two editors, the feeder and two readers at once; each module weighs 1. Answers whether all are whole.
+/// Two editors, the feeder and two readers at once; each module weighs 1. Answers whether all are
+/// whole.
 fn meet<R: Threads + Wait + Sync>(
     rt: &R,
     alloc: Global,

@@ -85,8 +85,8 @@ pub(crate) fn run_once<S: Source, F: Folders, T: Store>(
     ))
 }
 
-/// Runs a command on an input that comes in pieces of `read` bytes, and with a sink that takes `written`, both at least 1. One call of
-/// an end fails, if any.
+/// Runs a command on an input that comes in pieces of `read` bytes, and with a sink that takes
+/// `written`, both at least 1. One call of an end fails, if any.
 pub(crate) fn run(
     alloc: Global,
     line: &str,
@@ -122,9 +122,10 @@ pub(crate) fn run(
     Ok(Ended { code, sink, store })
 }
 
-/// Whether a run ended as it should in which a call of this end failed: nothing was written, or what the writes of a byte before it
-/// took, or which path can't be read, or the first sections of `record`, or the lines of what was stored before, when each call before
-/// stored one file or folder.
+/// Whether a run ended as it should in which a call of this end failed: nothing was written, or
+/// what the writes of a byte before it took, or which path can't be read, or the first sections of
+/// `record`, or the lines of what was stored before, when each call before stored one file or
+/// folder.
 fn is_right(line: &str, end: End, call: u64, good: &[u8], ended: &Ended) -> bool {
     let written = ended.sink.written();
     match end {
@@ -164,8 +165,9 @@ fn each_call_fails_in_turn(rt: HostRuntime) -> Result<(), Fail> {
     let alloc = rt.alloc();
     let published = run(alloc, "publish F 1 1", b"", (20, 1), None)?;
     let packets = published.sink.written();
-    // The packets are 564 bytes, 29 reads and one that finds their end. Each byte that is written is a write: 127, 716 and 21 of `plan`,
-    // `inspect` and `extract`. A folder is listed and a file read; a folder is made and a file written.
+    // The packets are 564 bytes, 29 reads and one that finds their end. Each byte that is written
+    // is a write: 127, 716 and 21 of `plan`, `inspect` and `extract`. A folder is listed and a file
+    // read; a folder is made and a file written.
     let rows: [(&str, &[u8], [u64; 4]); 10] = [
         ("assemble 1 0 5 42", &HELLO, [3, 5, 0, 0]),
         ("publish F 1 1", b"", [0, 564, 2, 0]),

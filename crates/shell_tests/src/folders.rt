@@ -8,8 +8,8 @@ use oc_bytes::{MemSink, MemSource, NoMemory};
 use std::alloc::Global;
 use std::test::Fail;
 
-/// A folder with 2,224 files of 65,493 bytes. With the 44 bytes before them each is an object of 65,537 bytes, which has a
-/// module of its own. What stands in the folder isn't known.
+/// A folder with 2,224 files of 65,493 bytes. With the 44 bytes before them each is an object of
+/// 65,537 bytes, which has a module of its own. What stands in the folder isn't known.
 #[derive(Drop)]
 struct ManyFiles;
 

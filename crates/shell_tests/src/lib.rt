@@ -1,5 +1,5 @@
-//! Tests of the commands and of sessions that can't be rows: actors on threads, ends that fail in mid-stream, and folders and inputs of a
-//! kind that isn't in memory.
+//! Tests of the commands and of sessions that can't be rows: actors on threads, ends that fail in
+//! mid-stream, and folders and inputs of a kind that isn't in memory.
 #![tactic(auto)]
 
 #[cfg(test)]

@@ -1,4 +1,5 @@
-//! A gate at which actors wait for one another, so that they pass it only if all of them are at work at once.
+//! A gate at which actors wait for one another, so that they pass it only if all of them are at
+//! work at once.
 
 use section_workers::{Actor, Gate};
 use std::sync::atomic::{AtomicU64, Ordering};
@@ -7,7 +8,8 @@ use std::thread;
 /// How often an actor looks for the others.
 const TURNS: u64 = 10_000_000;
 
-/// Each of five actors waits at its first step for the others, and each of two workers for the other one.
+/// Each of five actors waits at its first step for the others, and each of two workers for the
+/// other one.
 #[derive(Drop)]
 pub(crate) struct Meeting {
     actors: AtomicU64,

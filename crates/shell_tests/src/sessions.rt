@@ -15,7 +15,8 @@ use std::sync::Wait;
 use std::test::Fail;
 use std::thread::Threads;
 
-/// A file that the first editor takes away and then the second, or the other way round: the second of them finds none.
+/// A file that the first editor takes away and then the second, or the other way round: the second
+/// of them finds none.
 const WORKED: &[u8] =
     b"put 1 /x 31\ncommit 1\ndraw 1048576\nopen 1 /x\nstart\nremove 1 /x\ncommit 1\nremove 2 /x\ncommit 2\nsettle\nfinale 1 /x\n";
 
@@ -29,7 +30,8 @@ const FIRST_BEFORE: &[u8] =
 const SECOND_BEFORE: &[u8] =
     b"commit 2 generation 2\ncommit 1 refused edit 0 no-such-file\ndraw 2 0 3\ndraw 2 0 3\nopen 1 2 /x no-such\n";
 
-/// An editor makes a folder, which no file takes the place of, and takes it out; below `start` another one, and one in a third.
+/// An editor makes a folder, which no file takes the place of, and takes it out; below `start`
+/// another one, and one in a third.
 const FOLDERS: &[u8] =
     b"mkdir 1 /d\ncommit 1\ndraw 1048576\nopen 1 /d\nput 1 /d 31\ncommit 1\nrmdir 1 /d\ncommit 1\nstart\nmkdir 1 /e\nrmdir 1 /e\nmkdir 1 /d/e\ncommit 1\nsettle\nfinale 1 /\nfinale 1 /d/e\n";
 
@@ -40,8 +42,9 @@ const FOLDERS_REPORT: &[u8] =
 /// Two editors, the feeder and two readers with a step each.
 const MEETING: &[u8] = b"commit 1\ncommit 2\ndraw 3\nopen 1 /\nopen 2 /\n";
 
-/// Below `start` the first editor has two lines of edits and a commit, the second a line, a commit and a line that no commit follows; the
-/// feeder has two draws, the first reader two opens and the second one.
+/// Below `start` the first editor has two lines of edits and a commit, the second a line, a commit
+/// and a line that no commit follows; the feeder has two draws, the first reader two opens and the
+/// second one.
 const STEPPING: &[u8] =
     b"put 1 /a 31\ncommit 1\nput 1 /b 32\ndraw 5\nopen 1 /a\nstart\nput 1 /c 33\nremove 1 /a\ncommit 1\nput 2 /d 34\ncommit 2\nput 2 /e 35\ndraw 3\ndraw 3\nopen 1 /a\nopen 1 /b\nopen 2 /c\nsettle\nfinale 1 /b\nfinale 2 /d\n";
 
@@ -73,8 +76,8 @@ fn calls(alloc: Global, failing: Option<u64>) -> Result<Vec<u64>, Fail> {
     Ok(calls)
 }
 
-/// How the command of these words ends on an input that comes in pieces of 20 bytes, where each module is sent once a cycle, and what is
-/// written in pieces of 100.
+/// How the command of these words ends on an input that comes in pieces of 20 bytes, where each
+/// module is sent once a cycle, and what is written in pieces of 100.
 fn outcome<R: Threads + Wait + Sync, G: Gate>(
     rt: &R,
     alloc: Global,
@@ -169,7 +172,8 @@ fn failed<R: Threads + Wait + Sync>(
     )
 }
 
-/// The worked script has 111 bytes, so it takes six reads and one at its end; its report takes two writes.
+/// The worked script has 111 bytes, so it takes six reads and one at its end; its report takes two
+/// writes.
 #[test]
 fn each_failing_call_ends_the_session(rt: HostRuntime) -> Result<(), Fail> {
     let alloc = rt.alloc();
@@ -187,8 +191,8 @@ fn each_failing_call_ends_the_session(rt: HostRuntime) -> Result<(), Fail> {
     Ok(())
 }
 
-/// The counts of size 1 come from sums by hand: 32 files, of which the shortest has 1,000 bytes and each next one 500 more. Those of
-/// size 16 are an independent model's.
+/// The counts of size 1 come from sums by hand: 32 files, of which the shortest has 1,000 bytes and
+/// each next one 500 more. Those of size 16 are an independent model's.
 #[test]
 fn a_generated_session_is_counted(rt: HostRuntime) -> Result<(), Fail> {
     let alloc = rt.alloc();
@@ -206,7 +210,8 @@ fn a_generated_session_is_counted(rt: HostRuntime) -> Result<(), Fail> {
     Ok(())
 }
 
-/// Plays a session of two editors, the feeder and two readers. Answers whether it ended well, and all met at their first steps.
+/// Plays a session of two editors, the feeder and two readers. Answers whether it ended well, and
+/// all met at their first steps.
 fn meets<R: Threads + Wait + Sync>(
     rt: &R,
     alloc: Global,

@@ -3,7 +3,8 @@
 use section_workers::{Actor, Gate};
 use std::sync::atomic::{AtomicU64, Ordering};
 
-/// How many steps each of five actors made, and how many steps had another number than those before it.
+/// How many steps each of five actors made, and how many steps had another number than those before
+/// it.
 #[derive(Drop)]
 pub(crate) struct Steps {
     first_editor: AtomicU64,

@@ -15,8 +15,9 @@ fn put_packet(packets: &mut Vec<u8>, counter: u8, section: &[u8]) -> Result<(), 
     Ok(())
 }
 
-/// How a command with these sizes of a read and a write ends where this call of an end fails: its exit status, how many bytes were
-/// written, and how many are where no call fails, of which they are the first.
+/// How a command with these sizes of a read and a write ends where this call of an end fails: its
+/// exit status, how many bytes were written, and how many are where no call fails, of which they
+/// are the first.
 fn stopped(
     alloc: Global,
     line: &str,
@@ -111,7 +112,8 @@ fn calls_that_fail_stop_commands(rt: HostRuntime) -> Result<(), Fail> {
     Ok(())
 }
 
-/// A read that fails while sections are recorded: the one of 115 bytes in the packet before it is written by then.
+/// A read that fails while sections are recorded: the one of 115 bytes in the packet before it is
+/// written by then.
 #[test]
 fn a_read_that_fails_stops_recording(rt: HostRuntime) -> Result<(), Fail> {
     let alloc = rt.alloc();

@@ -1,4 +1,5 @@
-//! A board that shows one value after another: whoever shows never waits for whoever looks, and viewers take no lock.
+//! A board that shows one value after another: whoever shows never waits for whoever looks, and
+//! viewers take no lock.
 //!
 //! ```
 //! use shot_board::{Numbered, board};

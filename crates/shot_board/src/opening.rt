@@ -20,8 +20,9 @@ use std::alloc::{AllocError, Global};
 use std::sync::{Arc, Wait};
 use std::thread;
 
-/// A board that shows `first`, whose number is 0, with as many viewers as `readers`, at most 64. No value of it has a number
-/// above `most`. Out of memory is the only refusal: a place that is refused to a viewer is asked for again.
+/// A board that shows `first`, whose number is 0, with as many viewers as `readers`, at most 64. No
+/// value of it has a number above `most`. Out of memory is the only refusal: a place that is
+/// refused to a viewer is asked for again.
 pub fn board<S: Numbered, R: Wait>(
     rt: &R,
     alloc: Global,
@@ -142,7 +143,8 @@ fn named<S: Numbered, R: Wait>(rt: &R, writer: Desk<S>) -> Option<Desk<S>>
     Some(writer)
 }
 
-/// A viewer for each reader, which holds a share of `shown`. Where that can't be shared, the writer is gone.
+/// A viewer for each reader, which holds a share of `shown`. Where that can't be shared, the writer
+/// is gone.
 fn seat_all<S: Numbered, R: Wait>(
     rt: &R,
     mut writer: Desk<S>,
@@ -170,7 +172,8 @@ fn seat_all<S: Numbered, R: Wait>(
     Some(writer)
 }
 
-/// A viewer at a place of its own, which holds this share. A place that is refused is asked for again.
+/// A viewer at a place of its own, which holds this share. A place that is refused is asked for
+/// again.
 fn seat<S: Numbered, R: Wait>(rt: &R, writer: &mut Desk<S>, share: Shown<S>) -> Viewer<S>
     requires name { ((view writer.old.desk.place).named ≡ true)
         × ((view writer.old.desk.place).book.book ≡ share.front.seen.book)

@@ -7,7 +7,8 @@ use atomic_table::{Join, Split};
 use crossbeam_utils::rule::{Outcome, Protocol};
 use logbook::Seen;
 
-/// Which board it is. A seat that has no name knows nothing. It exists in proofs alone; no value of it is made.
+/// Which board it is. A seat that has no name knows nothing. It exists in proofs alone; no value of
+/// it is made.
 pub struct Name<S: Numbered> {
     pub named: bool,
     /// The book of the board's list.

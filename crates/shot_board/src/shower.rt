@@ -17,8 +17,8 @@ use std::sync::{Arc, Wait};
 /// The one that publishes.
 pub(crate) type Desk<S> = Writer<Shown<S>, Shown<S>, Name<S>, OneBook>;
 
-/// Shows one value after another on its board, and keeps the list of all that was shown. It can't be let go: end it by
-/// `close`.
+/// Shows one value after another on its board, and keeps the list of all that was shown. It can't
+/// be let go: end it by `close`.
 pub struct Shower<S: Numbered>
 where
     Shown<S>: Absorb<Shown<S>>,
@@ -46,11 +46,12 @@ impl<S: Numbered> Shower<S> {
     ghost use Rattle.shot_board.specs.Fronts.{shots_in, front_board};
     ghost use Rattle.shot_board.specs.Showers.{shown_by, shower_board, most_by, IsOnTheBoard, IsSameBoard};
 
-    /// Shows a value, whose number is one above the last and at most the board's greatest. It waits for viewers that still
-    /// read what was shown before the last.
+    /// Shows a value, whose number is one above the last and at most the board's greatest. It waits
+    /// for viewers that still read what was shown before the last.
     ///
-    /// Out of memory is the only refusal. It gives the value back and leaves the list. Where it comes after the value went
-    /// into the book, the shower is spent: each later call is refused, and viewers go on with what they have.
+    /// Out of memory is the only refusal. It gives the value back and leaves the list. Where it
+    /// comes after the value went into the book, the shower is spent: each later call is refused,
+    /// and viewers go on with what they have.
     pub fn show<R: Wait>(&mut self, rt: &R, shot: Arc<S>) -> Result<(), (AllocError, Arc<S>)>
         requires next { S.number (arc_value shot) ≡ length (shown_by self.old) }
         requires most { S.number (arc_value shot) ≤ most_by self.old }
@@ -81,7 +82,8 @@ impl<S: Numbered> Shower<S> {
         }
     }
 
-    /// Publishes a value of this board, which ends the list `front`. Where it answers false, nothing more is shown.
+    /// Publishes a value of this board, which ends the list `front`. Where it answers false,
+    /// nothing more is shown.
     fn sent<R: Wait>(&mut self, rt: &R, shown: Shown<S>, front: Front<S>) -> bool
         requires fresh { self.old.spent ≡ false }
         requires same { (self.old.front.seen.book ≡ shown.front.seen.book)
@@ -116,7 +118,8 @@ impl<S: Numbered> Shower<S> {
         self.front.again()
     }
 
-    /// Ends the board, once nobody reads. What each viewer knows stays, and it moves on to no other value.
+    /// Ends the board, once nobody reads. What each viewer knows stays, and it moves on to no other
+    /// value.
     pub fn close<R: Wait>(self, rt: &R) {
         let Shower {
             writer,
@@ -130,8 +133,8 @@ impl<S: Numbered> Shower<S> {
     }
 }
 
-/// The list with one value more, which is then in the book. There is none where the book has more than the list, as only
-/// another shower of it could bring about, or has 2^64 - 1 values.
+/// The list with one value more, which is then in the book. There is none where the book has more
+/// than the list, as only another shower of it could bring about, or has 2^64 - 1 values.
 fn added<S: Numbered>(head: &Word<S, u64, Law>, front: &Front<S>, shot: &S) -> Option<Front<S>>
     requires { (head.now ≡ head_of front.now.seen.book)
         × (S.number shot.now ≡ front.now.number + 1) }

@@ -9,7 +9,8 @@ use logbook::Seen;
 use std::alloc::AllocError;
 use std::sync::Arc;
 
-/// What is published: the last value that was shown, with the list that it ends. No number of it is above `most`.
+/// What is published: the last value that was shown, with the list that it ends. No number of it is
+/// above `most`.
 #[derive(Drop)]
 pub struct Shown<S: Numbered> {
     pub shot: Arc<S>,

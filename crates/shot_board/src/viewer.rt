@@ -15,9 +15,9 @@ use std::sync::Arc;
 /// A place at the board from which nobody looks.
 pub(crate) type Place<S> = Reader<Shown<S>, Name<S>, OneBook>;
 
-/// Looks at what a board shows, and never waits. It knows a list of what was shown, the value at place k having the number k,
-/// and was told of a list; both are beginnings of the board's. Of the list that it knows it holds the last value. It may go to
-/// another thread.
+/// Looks at what a board shows, and never waits. It knows a list of what was shown, the value at
+/// place k having the number k, and was told of a list; both are beginnings of the board's. Of the
+/// list that it knows it holds the last value. It may go to another thread.
 #[derive(Drop)]
 pub struct Viewer<S: Numbered> {
     // Away only while it reads.
@@ -55,7 +55,8 @@ impl<S: Numbered> Viewer<S> {
         }
     }
 
-    /// Tells the viewer of the list of a prefix of its own board. What it knows stays. It takes no memory.
+    /// Tells the viewer of the list of a prefix of its own board. What it knows stays. It takes no
+    /// memory.
     pub fn learn(&mut self, front: Front<S>)
         requires { front_board front ≡ viewer_board self.old }
         ensures board { (viewer_board self.new ≡ viewer_board self.old)
@@ -78,11 +79,12 @@ impl<S: Numbered> Viewer<S> {
         &self.shown.shot
     }
 
-    /// Moves on to the value that the board shows, which is then the last of the list that the viewer knows. Where the shower
-    /// was closed, or the count of the value's owners is full, the viewer stays with what it knows.
+    /// Moves on to the value that the board shows, which is then the last of the list that the
+    /// viewer knows. Where the shower was closed, or the count of the value's owners is full, the
+    /// viewer stays with what it knows.
     ///
-    /// Out of memory comes only where it then stays behind a list that it was told of, and leaves what it knows. So a viewer
-    /// that knows all that it was told of is never refused.
+    /// Out of memory comes only where it then stays behind a list that it was told of, and leaves
+    /// what it knows. So a viewer that knows all that it was told of is never refused.
     #[tactic(auto, using(crate::proofs::Prefixes::same_begins))]
     pub fn look(&mut self) -> Result<(), AllocError>
         ensures board { (viewer_board self.new ≡ viewer_board self.old)
@@ -103,12 +105,14 @@ impl<S: Numbered> Viewer<S> {
         }
     }
 
-    /// An owner of the value that the board shows, or where the viewer stays, as in `look`, of the last that it knows. It is the
-    /// last of the list that the viewer knows from then on. This list begins with what it knew before and with what it was told
-    /// of, so a value never has a number below one that it took or was told of.
+    /// An owner of the value that the board shows, or where the viewer stays, as in `look`, of the
+    /// last that it knows. It is the last of the list that the viewer knows from then on. This list
+    /// begins with what it knew before and with what it was told of, so a value never has a number
+    /// below one that it took or was told of.
     ///
-    /// Out of memory is the only refusal, and leaves what the viewer knows: `look` is refused, or the count of the value's owners
-    /// is full. No clause of std says when that count is full, so none says it here: who needs no owner of its own calls `look`.
+    /// Out of memory is the only refusal, and leaves what the viewer knows: `look` is refused, or
+    /// the count of the value's owners is full. No clause of std says when that count is full, so
+    /// none says it here: who needs no owner of its own calls `look`.
     #[tactic(auto, using(crate::proofs::Prefixes::same_begins))]
     pub fn take(&mut self) -> Result<Arc<S>, AllocError>
         ensures board { (viewer_board self.new ≡ viewer_board self.old)
@@ -172,7 +176,8 @@ impl<S: Numbered> Viewer<S> {
     }
 }
 
-/// A share of what is published, if the writer is there, the list is longer than `known`, and the value can be shared.
+/// A share of what is published, if the writer is there, the list is longer than `known`, and the
+/// value can be shared.
 fn read<S: Numbered>(reader: Place<S>, known: &Front<S>) -> (Option<Shown<S>>, Place<S>)
     requires { ((view reader.place).named ≡ true)
         × ((view reader.place).book.book ≡ known.now.seen.book) }
