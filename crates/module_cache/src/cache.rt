@@ -1,11 +1,12 @@
-ghost use Rattle.std.specs.Prelude.{◌≡◌, ◌≢◌, ◌++◌, ◌∷◌, ◌==◌, ◌&&◌, not, if◌then◌else◌, [], List, map, true, IsTrue, IfOk, OnOk, OnErr};
+ghost use Rattle.std.specs.Prelude.{◌≡◌, ◌≢◌, ◌<◌, ◌++◌, ◌∷◌, ◌==◌, ◌&&◌, not, if◌then◌else◌, [], List, map, length, true, IsTrue, IfSome, IfOk, OnOk, OnErr};
 ghost use Rattle.std.specs.List.{position, list_any};
 ghost use Rattle.ddb_block.specs.Blocks.{parts_view, view};
 ghost use Rattle.dsi_dii.specs.Controls.{DiiFields, view_dii};
 ghost use Rattle.module_cache.specs.Joining as limits;
-ghost use Rattle.module_cache.specs.Joining.{no_id_twice, empty, joining, joined, turned, outline_held, is_there, is_apart, has_line, taken_held, taken_of, taken_among, offered_held, offered, slot_from, slot_at, slot_among};
+ghost use Rattle.module_cache.specs.Joining.{no_id_twice, empty, joining, joined, turned, outline_held, is_there, is_apart, is_any, taken_unlisted, taken_held, taken_of, taken_among, offered_held, offered, slot_from, slot_at, slot_among};
 ghost use Rattle.module_cache.specs.Held.{fresh_tuned};
 ghost use Rattle.module_cache.specs.Inner.Joining.{without};
+ghost use Rattle.module_cache.specs.Inner.Placing.{line_from};
 ghost use Rattle.module_cache.specs.Calls.{Call, Turned, Joined, Offered, StandsFor, turns_of, itself};
 ghost use Rattle.module_cache.specs.Slots.{view_slot};
 
@@ -75,11 +76,17 @@ fn kept_or_none(alloc: Global, before: Vec<Tuned>, keep: bool) -> Vec<Tuned>
     if keep { before } else { Vec::new(alloc) }
 }
 
-/// The place of the held DII of the block's download that lists its module.
-fn place_for(held: &[Tuned], parts: &Parts<'_>) -> Option<usize>
-    ensures { result ≡ position (has_line (parts_view parts.now)) held.now }
+/// The place of the first held DII that has a line for the block, and that of the line.
+fn place_of_line(held: &[Tuned], parts: &Parts<'_>) -> Option<(usize, usize)>
+    ensures found { result ≡ line_from (parts_view parts.now) 0 held.now }
+    ensures inside { IfSome result (λ p. p.0 < length held.now) }
 {
-    held.iter().position(|t| t.has_line_for(parts))
+    for (place, tuned) in held.iter().enumerate() {
+        if let Some(line) = tuned.place_for(parts) {
+            return Some((place, line));
+        }
+    }
+    None
 }
 
 /// A held DII has this download.
@@ -87,6 +94,20 @@ fn has_download(held: &[Tuned], download: u32) -> bool
     ensures { result ≡ list_any (λ t. t.download == download) held.now }
 {
     held.iter().any(|t| t.download() == download)
+}
+
+/// What a block of this download answers that no held DII has a line for.
+fn refusal(held: &[Tuned], download: u32) -> Taken
+    ensures { result
+        ≡ taken_unlisted (is_any held.now) (list_any (λ t. t.download == download) held.now) }
+{
+    if held.is_empty() {
+        return Taken::NoDii;
+    }
+    if has_download(held, download) {
+        return Taken::Unlisted;
+    }
+    Taken::OtherDownload
 }
 
 /// Offers a block to the held DIIs.
@@ -97,17 +118,9 @@ fn offer_to(held: &mut [Tuned], alloc: Global, parts: &Parts<'_>) -> Result<Take
     ensures err { OnErr result (held.new ≡ held.old) }
     ensures memory { OnErr result (taken_held held.old (parts_view parts.now) ≡ Taken.New) }
 {
-    match place_for(held, parts) {
-        Some(place) => held[place].offer(alloc, parts),
-        None => {
-            if held.is_empty() {
-                return Ok(Taken::NoDii);
-            }
-            if has_download(held, parts.download) {
-                return Ok(Taken::Unlisted);
-            }
-            Ok(Taken::OtherDownload)
-        }
+    match place_of_line(held, parts) {
+        Some((place, line)) => held[place].offer_at(line, alloc, parts),
+        None => Ok(refusal(held, parts.download)),
     }
 }
 

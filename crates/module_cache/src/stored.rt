@@ -7,6 +7,7 @@ ghost use Rattle.module_cache.specs.Contents.{taken_again, taken_at, taken_in, s
 ghost use Rattle.ddb_block.specs.Blocks.{block_count_of};
 ghost use Rattle.ddb_block.specs.declared.TheConstants.{MOST_BLOCKS};
 ghost use Rattle.module_cache.specs.StoredView.{view_state};
+ghost use Rattle.module_cache.specs.Inner.Fitting.{taken_there};
 ghost use Rattle.module_cache.specs.Inner.StoredView.{IsShaped, IsState};
 ghost use Rattle.module_cache.specs.Contents as contents;
 ghost use Rattle.module_cache.specs.Slots.{view_slot, slot_of};
@@ -54,6 +55,25 @@ impl Model for Stored {
     ghost invariant = { IsStored };
 }
 
+/// Why a block isn't one of a module's.
+enum Misfit {
+    WrongPlace,
+    WrongLength,
+}
+
+impl From<Misfit> for Taken {
+    ghost use Rattle.module_cache.specs.Inner.Fitting.{taken_misfit};
+
+    ghost from_gives = { λ misfit t. t ≡ taken_misfit misfit };
+
+    fn from(misfit: Misfit) -> Taken {
+        match misfit {
+            Misfit::WrongPlace => Taken::WrongPlace,
+            Misfit::WrongLength => Taken::WrongLength,
+        }
+    }
+}
+
 /// A line of a held DII, and what is there of its module.
 #[derive(Drop)]
 pub struct Line {
@@ -91,18 +111,18 @@ fn settled(alloc: Global, assembler: Assembler) -> Result<State, (NoMemory, Asse
     }
 }
 
-/// What a block answers that is there already.
-fn again(size: u32, block_size: u16, block: u16, bytes: &[u8]) -> Taken
+/// The block has a place in the module, and that place's length.
+fn fit_of(size: u32, block_size: u16, block: u16, bytes: &[u8]) -> Result<(), Misfit>
     requires { 1 ≤ block_size }
-    ensures { result ≡ taken_again size block_size block bytes.now }
+    ensures { taken_there result ≡ taken_again size block_size block bytes.now }
 {
     if u32::from(block) >= block_count(size, block_size) {
-        Taken::WrongPlace
-    } else if bytes.len() != usize::from(block_span(size, block_size, block)) {
-        Taken::WrongLength
-    } else {
-        Taken::Again
+        return Err(Misfit::WrongPlace);
     }
+    if bytes.len() != usize::from(block_span(size, block_size, block)) {
+        return Err(Misfit::WrongLength);
+    }
+    Ok(())
 }
 
 /// What an assembler answers to a block, and the state after it. Where the module finds no memory, the block is missing again.
@@ -168,9 +188,8 @@ fn begun(
         (taken_at size block_size (view_state size block_size State.Empty) block bytes.now
         ≡ Taken.New) }
 {
-    let taken = again(size, block_size, block, bytes);
-    if taken != Taken::Again {
-        return Ok((taken, State::Empty));
+    if let Err(misfit) = fit_of(size, block_size, block, bytes) {
+        return Ok((Taken::from(misfit), State::Empty));
     }
     let assembler = match Assembler::new(alloc, size, block_size) {
         Ok(assembler) => assembler,
@@ -281,7 +300,10 @@ impl Stored {
         let (taken, state) = match mem::replace(&mut self.state, State::Empty) {
             State::Packed => (Ok(Taken::Compressed), State::Packed),
             State::Whole(module) => {
-                let taken = again(self.size, self.block_size, block, bytes);
+                let taken = match fit_of(self.size, self.block_size, block, bytes) {
+                    Ok(()) => Taken::Again,
+                    Err(misfit) => Taken::from(misfit),
+                };
                 (Ok(taken), State::Whole(module))
             }
             State::Empty => {
