@@ -93,8 +93,8 @@ fn module_of(alloc: Global, bytes: Vec<u8>) -> Result<Arc<Module>, (NoMemory, Ve
     }
 }
 
-/// The state that an assembler makes: the whole module where no block is missing. The assembler is handed back where there is no
-/// memory for that.
+/// The state after a block came: the whole module if no block is missing. The assembler is handed
+/// back if there is no memory for that.
 fn settled(alloc: Global, assembler: Assembler) -> Result<State, (NoMemory, Assembler)>
     ensures view { IfOk result (λ s.
         view_state assembler.size assembler.block_size s ≡ contents.content_of assembler.blocks) }
@@ -125,7 +125,8 @@ fn fit_of(size: u32, block_size: u16, block: u16, bytes: &[u8]) -> Result<(), Mi
     Ok(())
 }
 
-/// What an assembler answers to a block, and the state after it. Where the module finds no memory, the block is missing again.
+/// What an assembler answers to a block, and the state after it. If there is no memory for the
+/// whole module, the block is missing again.
 fn offer_to(
     alloc: Global,
     mut assembler: Assembler,
@@ -167,7 +168,8 @@ fn offer_to(
     }
 }
 
-/// What a module's first block makes of it: nothing where it doesn't fit, and no memory is taken then.
+/// What a module's first block answers, and the state after it. One that doesn't fit takes no
+/// memory.
 fn begun(
     alloc: Global,
     size: u32,
@@ -227,8 +229,8 @@ fn fresh_state(
 }
 
 impl Stored {
-    /// A module of `size` bytes in blocks of `block_size` bytes, of which nothing has come yet. One without bytes is whole at
-    /// once.
+    /// A module of `size` bytes in blocks of `block_size` bytes, of which nothing has come yet. One
+    /// without bytes is whole at once.
     pub(crate) fn new(
         alloc: Global,
         size: u32,
@@ -272,7 +274,7 @@ impl Stored {
         block_count(self.size, self.block_size)
     }
 
-    /// Whether block number `block` of the module is there, below the number of its blocks. Takes no memory.
+    /// Block number `block` is there, for a number below the number of blocks. Takes no memory.
     pub fn is_there(&self, block: u16) -> bool
         ensures { result ≡ has_block self.now.content block }
     {

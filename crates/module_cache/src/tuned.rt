@@ -63,7 +63,7 @@ fn is_same_line(a: &ModuleLine, b: &ModuleLine) -> bool
     a.size == b.size && a.version == b.version && a.compressed == b.compressed
 }
 
-/// Puts what is there of an old line into the new one, where both describe the module in the same way.
+/// Puts what is there of an old line into a new one that describes the module in the same way.
 fn keep_line(line: &mut Line, old: Line)
     ensures { line.new ≡ line_keeping old line.old }
 {
@@ -132,7 +132,7 @@ impl Tuned {
         })
     }
 
-    /// Takes over from an old DII what is there of the modules that both describe in the same way. Takes no memory.
+    /// Takes over the old DII's modules that both describe in the same way. Takes no memory.
     pub(crate) fn keep(&mut self, old: Tuned)
         ensures after { self.new ≡ tuned_keeping self.old old }
         ensures once { no_id_twice (map (λ x. x.line) old.lines) ≡ true }
@@ -213,7 +213,7 @@ impl Tuned {
         self.lines.iter().find(|x| x.line.id == id)
     }
 
-    /// Offers a block to the line at `place`, which is that of its module. Only `New` changes anything.
+    /// Offers a block to the line at `place`, the line of its module. Only `New` changes anything.
     pub(crate) fn offer_at(
         &mut self,
         place: usize,

@@ -1,4 +1,4 @@
-use Rattle.std.proofs.Common.{◌≡◌, ◌∙◌, Some, ap, subst, sym, map}
+use Rattle.std.proofs.Common.{◌≡◌, ◌∙◌, Some, ap, subst, sym}
 use Rattle.std.proofs.lemmas.Result.{on_ok_weaker, IfOk-weaker, on_err_weaker}
 use Rattle.ddb_block.specs.Blocks.{parts_view}
 use Rattle.module_cache.specs.Held.{taken_tuned, tuned_after}
