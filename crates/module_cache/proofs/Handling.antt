@@ -1,5 +1,5 @@
 -- What the code does with the lists of DIIs that are held and that wait.
-use Rattle.std.proofs.Common.{ℕ, zero, suc, ◌≡◌, ◌+◌, ◌-◌, ◌<◌, ◌≤◌, Bool, true, false, cond, not, eqb, ◌&&◌, List, [], ◌∷◌, ◌++◌, length, get_or, drop, map, Option, Some, None, refl, sym, ap, subst, ◌∙◌, arith, length-append, drop-cons, add-one}
+use Rattle.std.proofs.Common.{ℕ, zero, suc, ◌≡◌, ◌+◌, ◌-◌, ◌<◌, ◌≤◌, Bool, true, false, cond, not, eqb, ◌&&◌, List, [], ◌∷◌, ◌++◌, length, get_or, drop, map, Option, Some, None, refl, sym, ap, subst, ◌∙◌, arith, length-append}
 use Rattle.std.proofs.Math.ListN.{set}
 use Rattle.std.specs.List.{filter, find, list_any, flat_map, remove}
 use Rattle.std.proofs.lemmas.Bool.{cond-true, cond-false, eqb-true, eq-eqb, or_parts, and_parts, not-true}
@@ -18,7 +18,7 @@ use Rattle.module_cache.proofs.Apart.{apart_more, once_more, distinct_more, dist
 use Rattle.module_cache.proofs.Contents.{turned_round}
 use Rattle.module_cache.proofs.Keeping.{keeping_is, fresh_says, same_says, after_says, within_once}
 use Rattle.module_cache.proofs.Lists.{any_map, map_map, map_back, find_past, find_front}
-use Rattle.module_cache.proofs.Places.{IsFirst}
+use Rattle.module_cache.proofs.Places.{IsFirst, next_one}
 use Rattle.module_cache.proofs.Turning.{states}
 
 -- ---- what waits
@@ -212,9 +212,6 @@ abbrev pub with_held : CacheState → List TunedState → CacheState
 with_held c ts = record { held = ts; waiting = c.waiting }
 
 -- ---- one module
-
-next_one : (ts : List TunedState) (i : ℕ) (t : TunedState) → i < length ts → t ≡ get_or ts i t → drop i ts ≡ t ∷ drop (i + 1) ts
-next_one ts i t lt at = drop-cons ts i t lt ∙ ap (λ u. u ∷ drop (suc i) ts) (sym at) ∙ ap (λ k. t ∷ drop k ts) (sym (add-one i))
 
 pub slot_past : (id : ℕ) (ts : List TunedState) (i : ℕ) (t : TunedState) → i < length ts → t ≡ get_or ts i t → find (λ x. eqb x.line.id id) t.lines ≡ None → slot_from id (drop i ts) ≡ slot_from id (drop (i + 1) ts)
 slot_past id ts i t lt at none = ap (slot_from id) (next_one ts i t lt at) ∙ ap slot_in_line (find_past (λ x. eqb x.line.id id) t.lines (flat_map (λ u. u.lines) (drop (i + 1) ts)) none)

@@ -78,8 +78,8 @@ fn left_by_held(held: &[Tuned]) -> Option<u32>
     Some(left)
 }
 
-/// The modules of the held DIIs and of this one have at most [`MOST_TOTAL_SIZE`] bytes together, the limit of what a receiver
-/// holds (this project's own). Takes no memory.
+/// The modules of the held DIIs and of this one have at most [`MOST_TOTAL_SIZE`] bytes together.
+/// Takes no memory.
 pub fn fits_beside(held: &[Tuned], dii: &Dii) -> bool
     ensures { result ≡ joining.fits_beside (map outline_held held.now) (view_dii dii.now) }
 {

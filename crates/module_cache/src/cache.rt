@@ -1,11 +1,12 @@
-ghost use Rattle.std.specs.Prelude.{◌≡◌, ◌≢◌, ◌++◌, ◌∷◌, ◌==◌, ◌&&◌, not, if◌then◌else◌, [], List, map, true, IsTrue, IfOk, OnOk, OnErr};
+ghost use Rattle.std.specs.Prelude.{◌≡◌, ◌≢◌, ◌<◌, ◌++◌, ◌∷◌, ◌==◌, ◌&&◌, not, if◌then◌else◌, [], List, map, length, true, IsTrue, IfSome, IfOk, OnOk, OnErr};
 ghost use Rattle.std.specs.List.{position, list_any};
 ghost use Rattle.ddb_block.specs.Blocks.{parts_view, view};
 ghost use Rattle.dsi_dii.specs.Controls.{DiiFields, view_dii};
 ghost use Rattle.module_cache.specs.Joining as limits;
-ghost use Rattle.module_cache.specs.Joining.{no_id_twice, empty, joining, joined, turned, outline_held, is_there, is_apart, has_line, taken_held, taken_of, taken_among, offered_held, offered, slot_from, slot_at, slot_among};
+ghost use Rattle.module_cache.specs.Joining.{no_id_twice, empty, joining, joined, turned, outline_held, is_there, is_apart, is_any, taken_unlisted, taken_held, taken_of, taken_among, offered_held, offered, slot_from, slot_at, slot_among};
 ghost use Rattle.module_cache.specs.Held.{fresh_tuned};
 ghost use Rattle.module_cache.specs.Inner.Joining.{without};
+ghost use Rattle.module_cache.specs.Inner.Placing.{line_from};
 ghost use Rattle.module_cache.specs.Calls.{Call, Turned, Joined, Offered, StandsFor, turns_of, itself};
 ghost use Rattle.module_cache.specs.Slots.{view_slot};
 
@@ -18,13 +19,13 @@ use std::alloc::Global;
 use std::marker::Model;
 use std::mem;
 
-/// The modules of the DIIs that are held, whole or in part, and what waits for a DII of its identification.
+/// The modules of the held DIIs, whole or in part, and what waits for a DII of its identification.
 ///
-/// Several DIIs may describe one generation, each of an identification of its own. One of them turns, and takes the place of all
-/// that were held; the others join it.
+/// Several DIIs may describe one generation, each with an identification of its own. The first one
+/// turns: it takes the place of all that were held. The others join it.
 ///
-/// Contracts see the held DIIs in the order in which they came, each with what is there of its modules line by line, and those
-/// whose modules wait. The relation `StandsFor` says of which calls that is what looking back over all of them gives.
+/// Contracts see the held DIIs in the order of arrival, each with what is there of its modules, and
+/// the DIIs whose modules wait. `StandsFor` relates this to the calls that led to it.
 #[derive(Drop)]
 pub struct Cache {
     alloc: Global,
@@ -75,11 +76,17 @@ fn kept_or_none(alloc: Global, before: Vec<Tuned>, keep: bool) -> Vec<Tuned>
     if keep { before } else { Vec::new(alloc) }
 }
 
-/// The place of the held DII of the block's download that lists its module.
-fn place_for(held: &[Tuned], parts: &Parts<'_>) -> Option<usize>
-    ensures { result ≡ position (has_line (parts_view parts.now)) held.now }
+/// The place of the first held DII that has a line for the block, and that of the line.
+fn place_of_line(held: &[Tuned], parts: &Parts<'_>) -> Option<(usize, usize)>
+    ensures found { result ≡ line_from (parts_view parts.now) 0 held.now }
+    ensures inside { IfSome result (λ p. p.0 < length held.now) }
 {
-    held.iter().position(|t| t.has_line_for(parts))
+    for (place, tuned) in held.iter().enumerate() {
+        if let Some(line) = tuned.place_for(parts) {
+            return Some((place, line));
+        }
+    }
+    None
 }
 
 /// A held DII has this download.
@@ -87,6 +94,20 @@ fn has_download(held: &[Tuned], download: u32) -> bool
     ensures { result ≡ list_any (λ t. t.download == download) held.now }
 {
     held.iter().any(|t| t.download() == download)
+}
+
+/// What a block of this download answers that no held DII has a line for.
+fn refusal(held: &[Tuned], download: u32) -> Taken
+    ensures { result
+        ≡ taken_unlisted (is_any held.now) (list_any (λ t. t.download == download) held.now) }
+{
+    if held.is_empty() {
+        return Taken::NoDii;
+    }
+    if has_download(held, download) {
+        return Taken::Unlisted;
+    }
+    Taken::OtherDownload
 }
 
 /// Offers a block to the held DIIs.
@@ -97,17 +118,9 @@ fn offer_to(held: &mut [Tuned], alloc: Global, parts: &Parts<'_>) -> Result<Take
     ensures err { OnErr result (held.new ≡ held.old) }
     ensures memory { OnErr result (taken_held held.old (parts_view parts.now) ≡ Taken.New) }
 {
-    match place_for(held, parts) {
-        Some(place) => held[place].offer(alloc, parts),
-        None => {
-            if held.is_empty() {
-                return Ok(Taken::NoDii);
-            }
-            if has_download(held, parts.download) {
-                return Ok(Taken::Unlisted);
-            }
-            Ok(Taken::OtherDownload)
-        }
+    match place_of_line(held, parts) {
+        Some((place, line)) => held[place].offer_at(line, alloc, parts),
+        None => Ok(refusal(held, parts.download)),
     }
 }
 
@@ -136,14 +149,13 @@ impl Cache {
         }
     }
 
-    /// Holds this DII alone from now on, which has to be within the receiver's limits: `is_within` is the test.
+    /// Holds this DII alone from now on. `is_within` tests that it is within the receiver's limits.
     ///
-    /// What waited before is dropped. With `keep`, what is there of the modules of each DII that was held waits from now on under
-    /// that DII's identification, and without it that is dropped too. Then the DII is held as by `join`: it takes over what waits
-    /// under its own identification. So nothing waits over two turns.
+    /// What waited before is dropped. With `keep`, the modules of each DII that was held now wait
+    /// under that DII's identification. Without it they are dropped too. Then the DII takes over
+    /// what waits under its own identification, as in `join`.
     ///
-    /// Memory is asked for before anything changes: for the DII's lines, and for the list of the held DIIs, so also of a DII without
-    /// modules. Out of memory leaves the cache as it was. (What stays, and the limits, are this project's own rules.)
+    /// Memory is asked for before anything changes. Out of memory leaves the cache as it was.
     pub fn turn(&mut self, dii: &Dii, keep: bool) -> Result<(), NoMemory>
         requires { IsTrue (limits.is_within (view_dii dii.now)) }
         ensures ok { OnOk result (self.new ≡ turned self.old (view_dii dii.now) keep) }
@@ -161,16 +173,15 @@ impl Cache {
         Ok(())
     }
 
-    /// Holds this DII beside those that are held. It has to be within the receiver's limits; none of its identification may be
-    /// held, and no held one may list a module of it: `is_within`, `is_identification_held` and `is_apart` are the tests.
+    /// Holds this DII in addition to those that are held. `is_within`, `is_identification_held` and
+    /// `is_apart` test what is required.
     ///
-    /// What waits of a module under the DII's identification stays, whole or in part, exactly where both have the same downloadId
-    /// and block size and list the module's id with the same version, size and compression. Every other module begins empty; one
-    /// of 0 bytes that isn't compressed is whole at once. Nothing waits under the identification any more; what waits under others
+    /// A module that waits under the DII's identification stays, whole or in part, exactly where
+    /// both DIIs have the same downloadId and block size and list it with the same version, size
+    /// and compression. Every other module begins empty. What waits under other identifications
     /// goes on waiting. Nothing that stays is copied.
     ///
-    /// Memory is asked for before anything changes: for the DII's lines, and for one place more among the held DIIs. Out of memory
-    /// leaves the cache as it was. (What stays is this project's own rule.)
+    /// Memory is asked for before anything changes. Out of memory leaves the cache as it was.
     pub fn join(&mut self, dii: &Dii) -> Result<(), NoMemory>
         requires within { IsTrue (limits.is_within (view_dii dii.now)) }
         requires may_join { IsTrue (
@@ -191,10 +202,12 @@ impl Cache {
 
     /// Offers a block message: `offer_parts` of its parts.
     pub fn offer(&mut self, ddb: &Ddb) -> Result<Taken, NoMemory>
+        // the answer and the change, by the block's own rule
         ensures answer { IfOk result (λ t. t ≡ taken_of self.old (view ddb.now)) }
         ensures ok { OnOk result (self.new ≡ offered self.old (view ddb.now)) }
         ensures kept { IfOk result (λ t. t ≢ Taken.New → self.new ≡ self.old) }
         ensures changed { IfOk result (λ t. t ≡ Taken.New → self.new ≢ self.old) }
+        // the same, looking back over all calls
         ensures looks_back { IfOk result (λ t.
             (calls : List Call)
             → StandsFor self.old calls
@@ -202,6 +215,7 @@ impl Cache {
         ensures stands { OnOk result ((calls : List Call)
             → StandsFor self.old calls
             → StandsFor self.new (calls ++ Offered (view ddb.now) ∷ [])) }
+        // out of memory
         ensures err { OnErr result (self.new ≡ self.old) }
         ensures memory { OnErr result (taken_of self.old (view ddb.now) ≡ Taken.New) }
     {
@@ -214,17 +228,19 @@ impl Cache {
         })
     }
 
-    /// Offers a block. The answer is the first rule of `Taken` that holds, in the order in which they are listed, and only `New`
-    /// changes anything. The bytes are copied once, to their place in the module; the block that completes a module makes it whole
-    /// in the same call, out of the bytes where they are.
+    /// Offers a block. The answer is the first case of `Taken` that holds; only `New` changes
+    /// anything. The bytes are copied once, to their place in the module. The block that completes
+    /// a module makes it whole in the same call.
     ///
-    /// Memory is asked for only where the answer would be `New`: for the module's bytes at its first block, and for its index at
-    /// its last. Out of memory leaves the cache as it was.
+    /// Memory is asked for only where the answer would be `New`: for the module's bytes at its
+    /// first block, and for its index at its last. Out of memory leaves the cache as it was.
     pub fn offer_parts(&mut self, parts: &Parts<'_>) -> Result<Taken, NoMemory>
+        // the answer and the change, by the block's own rule
         ensures answer { IfOk result (λ t. t ≡ taken_of self.old (parts_view parts.now)) }
         ensures ok { OnOk result (self.new ≡ offered self.old (parts_view parts.now)) }
         ensures kept { IfOk result (λ t. t ≢ Taken.New → self.new ≡ self.old) }
         ensures changed { IfOk result (λ t. t ≡ Taken.New → self.new ≢ self.old) }
+        // the same, looking back over all calls
         ensures looks_back { IfOk result (λ t.
             (calls : List Call)
             → StandsFor self.old calls
@@ -232,13 +248,14 @@ impl Cache {
         ensures stands { OnOk result ((calls : List Call)
             → StandsFor self.old calls
             → StandsFor self.new (calls ++ Offered (parts_view parts.now) ∷ [])) }
+        // out of memory
         ensures err { OnErr result (self.new ≡ self.old) }
         ensures memory { OnErr result (taken_of self.old (parts_view parts.now) ≡ Taken.New) }
     {
         offer_to(&mut self.held, self.alloc, parts)
     }
 
-    /// What is there of the module with this id, 0 to 65,535, by the held DII that lists it. Takes no memory.
+    /// What is there of the module with this id, by the held DII that lists it. Takes no memory.
     pub fn module(&self, id: u16) -> Slot<'_>
         ensures slot { view_slot result ≡ slot_at self.now id }
         ensures looks_back { (calls : List Call)
@@ -248,7 +265,7 @@ impl Cache {
         slot_in(&self.held, id)
     }
 
-    /// The held DIIs in the order in which they came, each with what is there of its modules. Takes no memory.
+    /// The held DIIs in the order of arrival. Takes no memory.
     pub fn held(&self) -> &[Tuned]
         ensures { result.now ≡ self.now.held }
     {

@@ -1,5 +1,8 @@
-//! What a receiver of an object carousel holds of modules: the modules that the DIIs of a generation (ISO/IEC 13818-6,
-//! DownloadInfoIndication) list, whole or in part, and what of them stays when the DIIs of another take their place.
+//! The modules that a receiver of an object carousel holds, whole or in part.
+//!
+//! The DIIs of a generation list them (ISO/IEC 13818-6, DownloadInfoIndication). When the DIIs of
+//! another generation take their place, some modules stay. What stays, and the limits, are this
+//! project's own rules.
 //!
 //! ```
 //! use ddb_block::Parts;
@@ -8,7 +11,8 @@
 //!
 //! let mut cache = Cache::new(alloc);
 //! let line = ModuleLine { id: 1, size: 7, version: 0, compressed: false };
-//! let dii = Dii { download: 9, block_size: 4, transaction: TransactionId(0x8000_0002), modules: vec![in alloc; line]? };
+//! let transaction = TransactionId(0x8000_0002);
+//! let dii = Dii { download: 9, block_size: 4, transaction, modules: vec![in alloc; line]? };
 //! assert!(rt; is_within(&dii));
 //! cache.turn(&dii, false)?;
 //! let block = Parts { download: 9, module: 1, version: 0, block: 0, bytes: b"abcd" };

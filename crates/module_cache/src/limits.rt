@@ -58,8 +58,9 @@ pub(crate) fn fit_into(most: u32, lines: &[ModuleLine]) -> bool
     true
 }
 
-/// The modules of a DII can be received: blocks of 1 to [`MOST_BLOCK_SIZE`] bytes, modules of at most [`MOST_MODULE_SIZE`]
-/// bytes and [`MOST_BLOCKS`] blocks each and [`MOST_TOTAL_SIZE`] bytes together, and no module listed twice.
+/// The modules of a DII can be received. Blocks have 1 to [`MOST_BLOCK_SIZE`] bytes. Each module
+/// has at most [`MOST_MODULE_SIZE`] bytes and [`MOST_BLOCKS`] blocks, and all of them have at most
+/// [`MOST_TOTAL_SIZE`] bytes. No module is listed twice.
 pub fn is_within(dii: &Dii) -> bool
     ensures { result ≡ limits.is_within (view_dii dii.now) }
 {

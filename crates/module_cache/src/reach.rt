@@ -36,8 +36,8 @@ fn are_in(reach: Reach, lines: &[ModuleLine]) -> bool
     lines.iter().all(|line| is_in(reach, line))
 }
 
-/// From the id of the first line to that of the last, where all lie in that range, as in a DII whose ids rise. On that there
-/// is one hangs speed alone: without it all lines are searched.
+/// From the id of the first line to that of the last, if all lie in that range, as in a DII whose
+/// ids rise. It only saves time: without it all lines are searched.
 pub fn reach_of(lines: &[ModuleLine]) -> Option<Reach>
     ensures { IfSome result (λ r. list_all (is_within r) lines.now ≡ true) }
 {

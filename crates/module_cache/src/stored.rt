@@ -7,6 +7,7 @@ ghost use Rattle.module_cache.specs.Contents.{taken_again, taken_at, taken_in, s
 ghost use Rattle.ddb_block.specs.Blocks.{block_count_of};
 ghost use Rattle.ddb_block.specs.declared.TheConstants.{MOST_BLOCKS};
 ghost use Rattle.module_cache.specs.StoredView.{view_state};
+ghost use Rattle.module_cache.specs.Inner.Fitting.{taken_there};
 ghost use Rattle.module_cache.specs.Inner.StoredView.{IsShaped, IsState};
 ghost use Rattle.module_cache.specs.Contents as contents;
 ghost use Rattle.module_cache.specs.Slots.{view_slot, slot_of};
@@ -54,6 +55,25 @@ impl Model for Stored {
     ghost invariant = { IsStored };
 }
 
+/// Why a block isn't one of a module's.
+enum Misfit {
+    WrongPlace,
+    WrongLength,
+}
+
+impl From<Misfit> for Taken {
+    ghost use Rattle.module_cache.specs.Inner.Fitting.{taken_misfit};
+
+    ghost from_gives = { λ misfit t. t ≡ taken_misfit misfit };
+
+    fn from(misfit: Misfit) -> Taken {
+        match misfit {
+            Misfit::WrongPlace => Taken::WrongPlace,
+            Misfit::WrongLength => Taken::WrongLength,
+        }
+    }
+}
+
 /// A line of a held DII, and what is there of its module.
 #[derive(Drop)]
 pub struct Line {
@@ -73,8 +93,8 @@ fn module_of(alloc: Global, bytes: Vec<u8>) -> Result<Arc<Module>, (NoMemory, Ve
     }
 }
 
-/// The state that an assembler makes: the whole module where no block is missing. The assembler is handed back where there is no
-/// memory for that.
+/// The state after a block came: the whole module if no block is missing. The assembler is handed
+/// back if there is no memory for that.
 fn settled(alloc: Global, assembler: Assembler) -> Result<State, (NoMemory, Assembler)>
     ensures view { IfOk result (λ s.
         view_state assembler.size assembler.block_size s ≡ contents.content_of assembler.blocks) }
@@ -91,21 +111,22 @@ fn settled(alloc: Global, assembler: Assembler) -> Result<State, (NoMemory, Asse
     }
 }
 
-/// What a block answers that is there already.
-fn again(size: u32, block_size: u16, block: u16, bytes: &[u8]) -> Taken
+/// The block has a place in the module, and that place's length.
+fn fit_of(size: u32, block_size: u16, block: u16, bytes: &[u8]) -> Result<(), Misfit>
     requires { 1 ≤ block_size }
-    ensures { result ≡ taken_again size block_size block bytes.now }
+    ensures { taken_there result ≡ taken_again size block_size block bytes.now }
 {
     if u32::from(block) >= block_count(size, block_size) {
-        Taken::WrongPlace
-    } else if bytes.len() != usize::from(block_span(size, block_size, block)) {
-        Taken::WrongLength
-    } else {
-        Taken::Again
+        return Err(Misfit::WrongPlace);
     }
+    if bytes.len() != usize::from(block_span(size, block_size, block)) {
+        return Err(Misfit::WrongLength);
+    }
+    Ok(())
 }
 
-/// What an assembler answers to a block, and the state after it. Where the module finds no memory, the block is missing again.
+/// What an assembler answers to a block, and the state after it. If there is no memory for the
+/// whole module, the block is missing again.
 fn offer_to(
     alloc: Global,
     mut assembler: Assembler,
@@ -147,7 +168,8 @@ fn offer_to(
     }
 }
 
-/// What a module's first block makes of it: nothing where it doesn't fit, and no memory is taken then.
+/// What a module's first block answers, and the state after it. One that doesn't fit takes no
+/// memory.
 fn begun(
     alloc: Global,
     size: u32,
@@ -168,9 +190,8 @@ fn begun(
         (taken_at size block_size (view_state size block_size State.Empty) block bytes.now
         ≡ Taken.New) }
 {
-    let taken = again(size, block_size, block, bytes);
-    if taken != Taken::Again {
-        return Ok((taken, State::Empty));
+    if let Err(misfit) = fit_of(size, block_size, block, bytes) {
+        return Ok((Taken::from(misfit), State::Empty));
     }
     let assembler = match Assembler::new(alloc, size, block_size) {
         Ok(assembler) => assembler,
@@ -208,8 +229,8 @@ fn fresh_state(
 }
 
 impl Stored {
-    /// A module of `size` bytes in blocks of `block_size` bytes, of which nothing has come yet. One without bytes is whole at
-    /// once.
+    /// A module of `size` bytes in blocks of `block_size` bytes, of which nothing has come yet. One
+    /// without bytes is whole at once.
     pub(crate) fn new(
         alloc: Global,
         size: u32,
@@ -253,7 +274,7 @@ impl Stored {
         block_count(self.size, self.block_size)
     }
 
-    /// Whether block number `block` of the module is there, below the number of its blocks. Takes no memory.
+    /// Block number `block` is there, for a number below the number of blocks. Takes no memory.
     pub fn is_there(&self, block: u16) -> bool
         ensures { result ≡ has_block self.now.content block }
     {
@@ -281,7 +302,10 @@ impl Stored {
         let (taken, state) = match mem::replace(&mut self.state, State::Empty) {
             State::Packed => (Ok(Taken::Compressed), State::Packed),
             State::Whole(module) => {
-                let taken = again(self.size, self.block_size, block, bytes);
+                let taken = match fit_of(self.size, self.block_size, block, bytes) {
+                    Ok(()) => Taken::Again,
+                    Err(misfit) => Taken::from(misfit),
+                };
                 (Ok(taken), State::Whole(module))
             }
             State::Empty => {

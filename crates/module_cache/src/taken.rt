@@ -17,7 +17,7 @@ pub enum Taken {
     Compressed,
     /// The module has no block of this number.
     WrongPlace,
-    /// The block hasn't the length of its place: the block size, or what is left for the last block.
+    /// The block hasn't the length of its place: the block size, or the rest for the last block.
     WrongLength,
     /// The block is there already; it stays.
     Again,

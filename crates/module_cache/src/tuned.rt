@@ -2,7 +2,7 @@
 
 ghost use Rattle.std.specs.Prelude.{◌≡◌, ◌≢◌, ◌≤◌, ◌<◌, ◌==◌, [], map, true, IsTrue, Some, IfOk, OnOk, OnErr};
 ghost use Rattle.std.specs.List.{find, fold, position, list_all, list_any};
-ghost use Rattle.module_cache.specs.Joining.{has_line, no_id_twice};
+ghost use Rattle.module_cache.specs.Joining.{no_id_twice};
 ghost use Rattle.std.specs.Option.{option_map};
 ghost use Rattle.oc_bytes.specs.Outcome.{MakesList};
 ghost use Rattle.block_assembler.specs.Blocks.{IsAssembled};
@@ -10,8 +10,9 @@ ghost use Rattle.ddb_block.specs.Blocks.{parts_view};
 ghost use Rattle.dsi_dii.specs.Controls.{view_dii};
 ghost use Rattle.module_cache.specs.Joining as limits;
 ghost use Rattle.module_cache.specs.Inner.Keeping.{line_keeping, lines_keeping, tuned_keeping};
+ghost use Rattle.module_cache.specs.Inner.Placing.{line_in};
 ghost use Rattle.module_cache.specs.Spans.{same_line};
-ghost use Rattle.module_cache.specs.Held.{line_fresh, fresh_tuned, taken_line, taken_tuned, line_after, lines_after, tuned_after};
+ghost use Rattle.module_cache.specs.Held.{line_fresh, fresh_tuned, taken_tuned, tuned_after};
 ghost use Rattle.ddb_block.specs.declared.TheConstants.{MOST_BLOCK_SIZE};
 
 use crate::reach::{Reach, reach_of};
@@ -55,45 +56,6 @@ fn place_of(lines: &[Line], id: u16) -> Option<usize>
     lines.iter().position(|x| x.line.id == id)
 }
 
-/// A line is of this module.
-fn lists_module(lines: &[Line], id: u16) -> bool
-    ensures { result ≡ list_any (λ x. x.line.id == id) lines.now }
-{
-    lines.iter().any(|x| x.line.id == id)
-}
-
-/// Offers a block to the line of its module.
-fn offer_line(line: &mut Line, alloc: Global, parts: &Parts<'_>) -> Result<Taken, NoMemory>
-    ensures answer { IfOk result (λ t. t ≡ taken_line (parts_view parts.now) (Some line.old)) }
-    ensures ok { OnOk result (line.new ≡ line_after (parts_view parts.now) line.old) }
-    ensures changed { IfOk result (λ t. t ≡ Taken.New → line.new ≢ line.old) }
-    ensures err { OnErr result (line.new ≡ line.old) }
-    ensures memory { OnErr result (taken_line (parts_view parts.now) (Some line.old) ≡ Taken.New) }
-{
-    if line.line.version != parts.version {
-        return Ok(Taken::OtherVersion);
-    }
-    line.stored.offer(alloc, parts.block, parts.bytes)
-}
-
-/// Offers a block to the first line of its module.
-fn offer_lines(lines: &mut [Line], alloc: Global, parts: &Parts<'_>) -> Result<Taken, NoMemory>
-    ensures answer { IfOk result (λ t.
-        t ≡ taken_line (parts_view parts.now)
-        (find (λ x. x.line.id == parts.now.module) lines.old)) }
-    ensures ok { OnOk result (lines.new ≡ lines_after (parts_view parts.now) lines.old) }
-    ensures changed { IfOk result (λ t. t ≡ Taken.New → lines.new ≢ lines.old) }
-    ensures err { OnErr result (lines.new ≡ lines.old) }
-    ensures memory { OnErr result
-        (taken_line (parts_view parts.now) (find (λ x. x.line.id == parts.now.module) lines.old)
-        ≡ Taken.New) }
-{
-    match place_of(lines, parts.module) {
-        Some(place) => offer_line(&mut lines[place], alloc, parts),
-        None => Ok(Taken::Unlisted),
-    }
-}
-
 /// Both lines describe a module in the same way.
 fn is_same_line(a: &ModuleLine, b: &ModuleLine) -> bool
     ensures { result ≡ same_line a.now b.now }
@@ -101,7 +63,7 @@ fn is_same_line(a: &ModuleLine, b: &ModuleLine) -> bool
     a.size == b.size && a.version == b.version && a.compressed == b.compressed
 }
 
-/// Puts what is there of an old line into the new one, where both describe the module in the same way.
+/// Puts what is there of an old line into a new one that describes the module in the same way.
 fn keep_line(line: &mut Line, old: Line)
     ensures { line.new ≡ line_keeping old line.old }
 {
@@ -170,7 +132,7 @@ impl Tuned {
         })
     }
 
-    /// Takes over from an old DII what is there of the modules that both describe in the same way. Takes no memory.
+    /// Takes over the old DII's modules that both describe in the same way. Takes no memory.
     pub(crate) fn keep(&mut self, old: Tuned)
         ensures after { self.new ≡ tuned_keeping self.old old }
         ensures once { no_id_twice (map (λ x. x.line) old.lines) ≡ true }
@@ -194,20 +156,31 @@ impl Tuned {
         self.block_size
     }
 
-    /// The DII has the block's downloadId and lists its module.
-    pub(crate) fn has_line_for(&self, parts: &Parts<'_>) -> bool
-        ensures { result ≡ has_line (parts_view parts.now) self.now }
+    /// The place of a module's line. An id outside the lines' range isn't searched for.
+    fn place(&self, id: u16) -> Option<usize>
+        ensures { result ≡ position (λ x. x.line.id == id) self.now.lines }
     {
-        self.download == parts.download && self.lists(parts.module)
+        match self.reach {
+            Some(reach) if !reach.has(id) => None,
+            _ => place_of(&self.lines, id),
+        }
     }
 
     /// The DII lists this module.
     pub(crate) fn lists(&self, id: u16) -> bool
         ensures { result ≡ list_any (λ x. x.line.id == id) self.now.lines }
     {
-        match self.reach {
-            Some(reach) if !reach.has(id) => false,
-            _ => lists_module(&self.lines, id),
+        self.place(id).is_some()
+    }
+
+    /// The place of the line of a block's module, if the DII has the block's downloadId.
+    pub(crate) fn place_for(&self, parts: &Parts<'_>) -> Option<usize>
+        ensures { result ≡ line_in (parts_view parts.now) self.now }
+    {
+        if self.download == parts.download {
+            self.place(parts.module)
+        } else {
+            None
         }
     }
 
@@ -240,18 +213,24 @@ impl Tuned {
         self.lines.iter().find(|x| x.line.id == id)
     }
 
-    /// Offers a block. Only `New` changes anything.
-    pub(crate) fn offer(&mut self, alloc: Global, parts: &Parts<'_>) -> Result<Taken, NoMemory>
+    /// Offers a block to the line at `place`, the line of its module. Only `New` changes anything.
+    pub(crate) fn offer_at(
+        &mut self,
+        place: usize,
+        alloc: Global,
+        parts: &Parts<'_>,
+    ) -> Result<Taken, NoMemory>
+        requires { line_in (parts_view parts.now) self.old ≡ Some place }
         ensures answer { IfOk result (λ t. t ≡ taken_tuned self.old (parts_view parts.now)) }
         ensures ok { OnOk result (self.new ≡ tuned_after self.old (parts_view parts.now)) }
         ensures changed { IfOk result (λ t. t ≡ Taken.New → self.new ≢ self.old) }
         ensures err { OnErr result (self.new ≡ self.old) }
         ensures memory { OnErr result (taken_tuned self.old (parts_view parts.now) ≡ Taken.New) }
-        ensures once { no_id_twice (map (λ x. x.line) self.old.lines) ≡ true }
     {
-        if self.download != parts.download {
-            return Ok(Taken::OtherDownload);
+        let line = &mut self.lines[place];
+        if line.line.version != parts.version {
+            return Ok(Taken::OtherVersion);
         }
-        offer_lines(&mut self.lines, alloc, parts)
+        line.stored.offer(alloc, parts.block, parts.bytes)
     }
 }

@@ -1,12 +1,7 @@
-use Rattle.std.proofs.Common.{◌∙◌, eqb, ap, subst, sym, map}
-use Rattle.std.specs.List.{list_any}
-use Rattle.module_cache.specs.Inner.Reaches.{AreWithin}
-use Rattle.module_cache.proofs.Reaching.{outside}
+use Rattle.std.proofs.Common.{◌∙◌, eqb, ap, sym}
+use Rattle.std.specs.Option.{is_some}
+use Rattle.module_cache.proofs.Places.{any_placed}
 use Rattle.module_cache.proofs.tuned.Tuned.lists.Goals as goal
 
-pub returns-in-Some : goal.returns-in-Some
-returns-in-Some c =
-    let lines = c.self.inside.lines.items in
-    let within = subst (λ reach. AreWithin reach (map (λ x. x.line) lines)) c.in-Some.is c.self.invariant.within in
-    let none = outside c.in-Some.reach c.args.id lines within (sym c.has.ensures ∙ c.if-not-has.true) in
-    sym (ap (λ s. list_any (λ x. eqb x.line.id c.args.id) s.lines) (sym c.self.view_is) ∙ none)
+pub returns : goal.returns
+returns c = c.is_some.ensures ∙ ap is_some c.place.ensures ∙ sym (any_placed (λ x. eqb x.line.id c.args.id) c.args.self.now.lines)
