@@ -180,7 +180,8 @@ impl Receiver {
         }
     }
 
-    /// Takes a packet that follows the last one and only makes the open section longer.
+    /// Takes a packet of this PID without an adaptation field, if it follows the last one and only
+    /// makes the open section longer.
     #[inline]
     fn goes_on_quickly(&mut self, packet: &[u8; PACKET_LENGTH], fields: Packet<'_>) -> bool
         requires packet { parse_packet packet.now ≡ Ok (view fields) }

@@ -129,6 +129,7 @@ pub fn parse_plain(bytes: &[u8; PACKET_LENGTH]) -> Option<Packet<'_>>
         × (p.payload.now ≡ drop 4 bytes.now)) }
 {
     let header = header_of(bytes);
+    // The sync byte and no error; neither scrambled nor with an adaptation field.
     if header >> 23 != u32::from(SYNC) << 1 || header >> 4 & 15 != 1 {
         return None;
     }
