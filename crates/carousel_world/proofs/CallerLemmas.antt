@@ -12,9 +12,11 @@ use Rattle.carousel_world.specs.Promises.{world_after}
 use Rattle.carousel_world.specs.Publishing.{layouts_for, items_sent, publication}
 use Rattle.carousel_world.specs.Settling.{IsOpening, whole_draw, with_settling}
 use Rattle.carousel_world.specs.World.{WorldState, initial_world, happens, after_all}
--- The sections of a generation are as a downlink asks by `framed_is_like`. `stands_after_draw` says that a downlink which stood for some draws,
--- and sent one more, stands for these and it. `generation_with` writes out a generation of a tree of one small file.
-pub use Rattle.carousel_world.proofs.Happening.{framed_is_like}
+-- A draw that is sent in pieces: `SentSo` says what the pieces so far left of a downlink, from `none_sent_so` on, and `piece_sent` adds one, which
+-- `piece_of` cuts from the draw's items, and `draw_sent` the last. The sections of a generation are as a downlink asks by `framed_is_like`. `stands_after_draw` says that a downlink
+-- which stood for some draws, and sent one more, stands for these and it. `generation_with` writes out a generation of a tree of one small file.
+pub use Rattle.carousel_world.proofs.Carrying.{SentSo, none_sent_so, piece_sent, draw_sent}
+pub use Rattle.carousel_world.proofs.Happening.{piece_of, framed_is_like}
 pub use Rattle.carousel_world.proofs.Sending.{stands_after_draw}
 pub use Rattle.carousel_world.proofs.Laid.{generation_with}
 

@@ -4,11 +4,9 @@ ghost use Rattle.std.specs.List.{All};
 ghost use Rattle.path_tree.specs.Paths.{Bytes};
 ghost use Rattle.path_resolver.specs.Resolving.{is_shared};
 ghost use Rattle.path_resolver.specs.Shots as shots;
-ghost use Rattle.generation.specs.Layouts.{section_of, AreItemsOf};
 ghost use Rattle.section_stream.specs.Kept.{view_bytes};
 ghost use Rattle.section_stream.specs.Packing.{IsSectionLike, after_finish, last_of};
 ghost use Rattle.section_stream.specs.Cuts.{candidates};
-ghost use Rattle.section_stream.specs.Groups.{packets_of_group};
 ghost use Rattle.tuner_core.specs.Stands as tuning;
 ghost use Rattle.tuner_core.specs.LookBack.{answer_after, snapshot_after};
 ghost use Rattle.carousel_world.specs.Fates.{fate_of, received_under};
@@ -17,10 +15,7 @@ ghost use Rattle.carousel_world.specs.Inner.DownView.{Hears};
 ghost use Rattle.carousel_world.specs.Receptions.{label_after};
 ghost use Rattle.cycle_planner.specs.declared.TheConstants.{MOST_DRAWN};
 
-use crate::encoder::Encoder;
 use carousel_profile::PACKET_LENGTH;
-use cycle_planner::Item;
-use generation::Generation;
 use oc_bytes::NoMemory;
 use path_resolver::{Answer, Holding, Shot};
 use path_tree::Path;
@@ -30,9 +25,6 @@ use std::marker::Model;
 use std::sync::Arc;
 use ts_packet::Fate;
 use tuner_core::Tuner;
-
-/// The most items of a draw whose sections are in memory at once.
-const PIECE: usize = 1024;
 
 /// The way from a broadcaster to a receiver, and that receiver. Sections are packed, each packet
 /// meets its fate, and what arrives is cut into candidates and held.
@@ -173,38 +165,6 @@ impl Downlink {
             return self.send_rest(&mut packets, fates, number);
         }
         Ok(number)
-    }
-
-    /// Sends the items of a draw, whose sections the encoder makes. After out of memory the
-    /// downlink is of no use.
-    pub fn send_items<E: Encoder>(
-        &mut self,
-        encoder: &E,
-        generation: &Generation,
-        items: &[Item],
-        fates: &[Fate],
-    ) -> Result<(), NoMemory>
-        requires items { AreItemsOf generation.now items.now }
-        requires few { length items.now ≤ MOST_DRAWN }
-        ensures { OnOk result ((pid : ℕ) (groups : List (List Bytes)) (packets : List Bytes)
-            → DownlinkStands self.old pid groups [] packets
-            → (let sections = map (section_of generation.now) items.now in DownlinkStands self.new
-            pid (groups ++ sections ∷ []) []
-            (packets
-            ++ received_under fates.now 0 (packets_of_group self.old.mux sections)))) }
-    {
-        let mut number = 0;
-        let mut sent = 0;
-        loop {
-            let end = items.len().min(sent + PIECE);
-            let last = end == items.len();
-            let sections = encoder.sections(generation, &items[sent..end])?;
-            number = self.carry(&sections, fates, number, last)?;
-            if last {
-                return Ok(());
-            }
-            sent = end;
-        }
     }
 
     /// Ends the group: sends what was held back of it. `packets` is room.

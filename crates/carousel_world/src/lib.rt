@@ -20,13 +20,11 @@
 #![tactic(auto)]
 
 mod downlink;
-mod encoder;
 mod event;
 mod laws;
 mod world;
 
 pub use downlink::Downlink;
-pub use encoder::{Encoder, OneByOne};
 pub use event::{Event, Reply};
 pub use laws::{
     each_cycle_opens, every_publication_meets, every_reception_meets, every_run_meets_the_headline,

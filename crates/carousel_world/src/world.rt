@@ -1,17 +1,24 @@
 ghost use Rattle.std.specs.Prelude.{◌≡◌, ◌<◌, ◌≤◌, ◌*◌, ◌++◌, ◌∷◌, [], List, ℕ, map, length, true, IfOk, IsErr, OnOk, OnErr};
 ghost use Rattle.std.specs.List.{All};
+ghost use Rattle.path_tree.specs.Paths.{Bytes};
 ghost use Rattle.cycle_planner.specs.Weights.{AreWeights};
+ghost use Rattle.generation.specs.Layouts.{section_of, AreItemsOf};
+ghost use Rattle.section_stream.specs.Kept.{view_bytes};
+ghost use Rattle.section_stream.specs.Packing.{IsSectionLike};
+ghost use Rattle.section_stream.specs.Groups.{packets_of_group};
+ghost use Rattle.carousel_world.specs.DownView.{DownlinkStands};
 ghost use Rattle.carousel_world.specs.Events.{view, Step, Commit, Draw, Open};
 ghost use Rattle.carousel_world.specs.Promises.{MeetsHeadline, world_after};
+ghost use Rattle.carousel_world.specs.Fates.{received_under};
 ghost use Rattle.carousel_world.specs.World.{WorldState, InRange, AsksForMemory, initial_world, reply_to};
 ghost use Rattle.cycle_planner.specs.declared.TheConstants.{MOST_DRAWN};
 
 use crate::downlink::Downlink;
-use crate::encoder::OneByOne;
 use crate::event::{Event, Reply};
 use crate::laws::every_run_meets_the_headline;
 use carousel_profile::CAROUSEL_PID;
-use cycle_planner::Weigh;
+use cycle_planner::{Item, Weigh};
+use generation::Generation;
 use generation_catalogue::{Batch, CommitFault, DrawFault, Journal};
 use oc_bytes::NoMemory;
 use path_tree::{Edits, Path};
@@ -20,6 +27,9 @@ use ts_packet::Fate;
 
 /// The PID on which a world sends.
 const PID: u16 = CAROUSEL_PID;
+
+/// The most items of a draw whose sections are in memory at once.
+const PIECE: usize = 1024;
 
 /// A broadcaster of one carousel and a receiver, one event after another.
 #[derive(Drop)]
@@ -117,9 +127,13 @@ impl World {
             Err(DrawFault::DrawsFull(draws)) => return Ok(Reply::DrawsFull(draws)),
             Err(DrawFault::NoMemory) => return Err(AllocError),
         };
-        let encoder = OneByOne { alloc: self.alloc };
-        self.downlink
-            .send_items(&encoder, &batch.generation, &batch.items, fates)?;
+        send(
+            self.alloc,
+            &mut self.downlink,
+            &batch.generation,
+            &batch.items,
+            fates,
+        )?;
         Ok(Reply::Drawn {
             generation: batch.generation.number(),
             first: batch.first,
@@ -202,5 +216,49 @@ impl World {
     {
         every_run_meets_the_headline();
         self.journal.entries();
+    }
+}
+
+fn encode(alloc: Global, generation: &Generation, items: &[Item]) -> Result<Vec<Vec<u8>>, NoMemory>
+    requires { AreItemsOf generation.now items.now }
+    ensures sections { IfOk result (λ ss.
+        map view_bytes ss.items ≡ map (section_of generation.now) items.now) }
+    ensures like { IfOk result (λ ss. All (λ s. IsSectionLike s.items) ss.items) }
+{
+    let mut sections = Vec::with_capacity(alloc, items.len())?;
+    for item in items {
+        sections.push(generation.section(*item)?)?;
+    }
+    Ok(sections)
+}
+
+/// Sends a draw. At most [`PIECE`] sections are in memory at once.
+fn send(
+    alloc: Global,
+    downlink: &mut Downlink,
+    generation: &Generation,
+    items: &[Item],
+    fates: &[Fate],
+) -> Result<(), NoMemory>
+    requires items { AreItemsOf generation.now items.now }
+    requires few { length items.now ≤ MOST_DRAWN }
+    ensures { OnOk result ((pid : ℕ) (groups : List (List Bytes)) (packets : List Bytes)
+        → DownlinkStands downlink.old pid groups [] packets
+        → (let sections = map (section_of generation.now) items.now in DownlinkStands downlink.new
+        pid (groups ++ sections ∷ []) []
+        (packets
+        ++ received_under fates.now 0 (packets_of_group downlink.old.mux sections)))) }
+{
+    let mut number = 0;
+    let mut sent = 0;
+    loop {
+        let end = items.len().min(sent + PIECE);
+        let last = end == items.len();
+        let sections = encode(alloc, generation, &items[sent..end])?;
+        number = downlink.carry(&sections, fates, number, last)?;
+        if last {
+            return Ok(());
+        }
+        sent = end;
     }
 }

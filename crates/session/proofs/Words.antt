@@ -1,6 +1,6 @@
 -- The words and lemmas of the crates below, and of this crate's definitions, that several of these proofs use.
 pub use Rattle.std.proofs.Common.{◌≡◌, ℕ, ◌+◌, ◌==◌, Bool, true, false, cond, nat_lt, List, [], ◌∷◌, ◌++◌, length, Option, Some, None, Result, Ok, Err, count_by, ◌⊎◌, inl, inr, sym, ap, ◌∙◌, refl, arith, length-append, eqb-true, ltb-true, ◌<◌, ◌≤◌, map, subst, append_assoc, append-nil, suc, All, ne_eqb, if◌then◌else◌, ◌≢◌, filter, drop, get_or, sum_by, eq-eqb, slice_set, slice_index_or, get_or-set_other, length-set, take, length-take-le, zero, slice_get, nat_eq, ◌↔◌, ◌&&◌, is_some, OnOk, IfOk, ◌-◌, nat_le, flat_map, leb-false, ◌||◌, Contains, BTreeMap, take_all, take-append-drop, option_to_list, rules, IfSome}
-pub use Rattle.carousel_world.proofs.CallerLemmas.{opens_leave, after_all-append, settled_among_opens, stands_after_draw, framed_is_like}
+pub use Rattle.carousel_world.proofs.CallerLemmas.{opens_leave, after_all-append, settled_among_opens, stands_after_draw, SentSo, none_sent_so, piece_sent, draw_sent, piece_of, framed_is_like}
 pub use Rattle.carousel_world.specs.DownView.{DownlinkState, DownlinkStands}
 pub use Rattle.carousel_world.specs.Events.{Step, Commit, Draw, Open}
 pub use Rattle.carousel_world.specs.Promises.{MeetsHeadline, world_after, IsUndamaged, broadcast_of}
@@ -73,7 +73,7 @@ pub use Rattle.std.proofs.Math.Seq.{map-set_same, drop-cons}
 pub use Rattle.std.proofs.lemmas.Bool.{cases_Bool, eqb-false, both_ways, and_parts, cond_both}
 pub use Rattle.std.proofs.lemmas.Grind.{get_or-set_at}
 pub use Rattle.std.proofs.lemmas.List.{map-append, get_or-map, get_or_append_left, length-map, take_more, with_items_is, same_from_push, append_cancel_left, take-append-le, get_or_default, get_or_push}
-pub use Rattle.std.proofs.lemmas.List.Elements.{All-head, All-tail, filter-append, All-get_or, All-push, All-nil, All-cons, All-append, All-weaker, recursion_from_All}
+pub use Rattle.std.proofs.lemmas.List.Elements.{All-head, All-tail, filter-append, All-get_or, All-push, All-nil, All-cons, All-append, All-map, All-weaker, recursion_from_All}
 pub use Rattle.std.proofs.lemmas.List.Sums.{sum_by-append, sum_by-cons, AllPass-from_list_all, list_all-from_AllPass}
 pub use Rattle.std.proofs.lemmas.Option.{slice_get_within}
 pub use Rattle.std.proofs.lemmas.Result.{on_ok_weaker}

@@ -1,7 +1,11 @@
 //! What the feeder does.
 ghost use Rattle.std.specs.Prelude.{◌≡◌, ◌++◌, ◌∷◌, ◌+◌, ◌≤◌, [], List, ℕ, map, length, OnOk, All};
 ghost use Rattle.std.specs.Arc.{arc_value};
-ghost use Rattle.generation.specs.Layouts.{AreItemsOf};
+ghost use Rattle.path_tree.specs.Paths.{Bytes};
+ghost use Rattle.generation.specs.Layouts.{section_of, AreItemsOf};
+ghost use Rattle.section_stream.specs.Groups.{packets_of_group};
+ghost use Rattle.carousel_world.specs.DownView.{DownlinkStands};
+ghost use Rattle.carousel_world.specs.Fates.{received_under};
 ghost use Rattle.carousel_world.specs.World.{Drawing};
 ghost use Rattle.shot_board.specs.Showers.{shown_by, most_by, IsSameBoard, HasRoomFor};
 ghost use Rattle.station.specs.Passes.{IsStationPass};
@@ -11,7 +15,7 @@ ghost use Rattle.session.specs.Seats.{HasFed, DidFeed, IsDrawLine, draw_of};
 ghost use Rattle.session.specs.Inner.Seats.{drawing_in};
 ghost use Rattle.cycle_planner.specs.declared.TheConstants.{MOST_DRAWN};
 
-use carousel_world::{Downlink, Encoder, Fate};
+use carousel_world::{Downlink, Fate};
 use cycle_planner::Item;
 use generation::Generation;
 use generation_catalogue::Batch;
@@ -25,19 +29,8 @@ use std::mem;
 use std::sync::Wait;
 use std::thread::Threads;
 
-/// Two workers make the sections at once, and pass the gate.
-#[derive(Drop)]
-struct Workers<'a, R, G> {
-    rt: &'a R,
-    alloc: Global,
-    gate: &'a G,
-}
-
-impl<R: Threads + Sync, G: Gate> Encoder for Workers<'_, R, G> {
-    fn sections(&self, generation: &Generation, items: &[Item]) -> Result<Vec<Vec<u8>>, NoMemory> {
-        encode_batch(self.rt, self.alloc, generation, items, self.gate)
-    }
-}
+/// The most items of a draw whose sections are in memory at once.
+const PIECE: usize = 1024;
 
 /// A draw that the feeder has to make.
 #[derive(Drop)]
@@ -86,8 +79,7 @@ pub(crate) fn send_and_show<R: Threads + Wait + Sync, G: Gate>(
         items,
         ..
     } = batch;
-    let workers = Workers { rt, alloc, gate };
-    downlink.send_items(&workers, generation, items, fates)?;
+    send(rt, alloc, gate, downlink, generation, items, fates)?;
     // The board may show the next number, so it is there.
     let Some(number) = shower.front().number().checked_add(1) else {
         return Err(AllocError);
@@ -96,6 +88,39 @@ pub(crate) fn send_and_show<R: Threads + Wait + Sync, G: Gate>(
     match shower.show(rt, shot) {
         Ok(()) => Ok(()),
         Err((refused, _)) => Err(refused),
+    }
+}
+
+/// Sends the items of a draw, which are a group.
+fn send<R: Threads + Sync, G: Gate>(
+    rt: &R,
+    alloc: Global,
+    gate: &G,
+    downlink: &mut Downlink,
+    generation: &Generation,
+    items: &[Item],
+    fates: &[Fate],
+) -> Result<(), NoMemory>
+    requires items { AreItemsOf generation.now items.now }
+    requires few { length items.now ≤ MOST_DRAWN }
+    ensures { OnOk result ((pid : ℕ) (groups : List (List Bytes)) (packets : List Bytes)
+        → DownlinkStands downlink.old pid groups [] packets
+        → (let sections = map (section_of generation.now) items.now in DownlinkStands downlink.new
+        pid (groups ++ sections ∷ []) []
+        (packets
+        ++ received_under fates.now 0 (packets_of_group downlink.old.mux sections)))) }
+{
+    let mut number = 0;
+    let mut sent = 0;
+    loop {
+        let end = items.len().min(sent + PIECE);
+        let last = end == items.len();
+        let sections = encode_batch(rt, alloc, generation, &items[sent..end], gate)?;
+        number = downlink.carry(&sections, fates, number, last)?;
+        if last {
+            return Ok(());
+        }
+        sent = end;
     }
 }
 

@@ -6,8 +6,8 @@ use Rattle.generation_catalogue.specs.Calls.{IsDrawn}
 use Rattle.carousel_world.proofs.Happening.{drawn_stands}
 use Rattle.carousel_world.proofs.world.World.draw_and_send.Goals as goal
 
-pub send_items-requires-clause-items : goal.send_items-requires-clause-items
-send_items-requires-clause-items g c =
+pub send-requires-clause-items : goal.send-requires-clause-items
+send-requires-clause-items g c =
     subst (λ (xs : List Item). All (λ item. Contains (items_of c.deref.result.now) item) xs) (sym c.deref-2.ensures.value)
     (subst (λ (g : GenerationState). All (λ item. Contains (items_of g) item) c.in-Ok.batch.items.items) (sym c.deref.ensures) c.in-Ok.ensures.items)
 
@@ -15,5 +15,5 @@ pub returns-clause-stands : goal.returns-clause-stands
 returns-clause-stands g c =
     let is : IsDrawn c.args.self.now.journal c.args.asked (Ok c.in-Ok.batch) c.draw.new.self =
     subst (λ r. IsDrawn c.args.self.now.journal c.args.asked r c.draw.new.self) c.in-Ok.is c.draw.ensures.drawn in
-    λ w st. drawn_stands c.args.self.now.journal c.draw.new.self w c.in-Ok.batch c.args.asked c.args.fates.now c.args.self.now.downlink c.send_items.new.self c.deref.result.now c.deref-2.result.now
-    is c.deref.ensures c.deref-2.ensures.value st c.in_ok-send_items.ensures
+    λ w st. drawn_stands c.args.self.now.journal c.draw.new.self w c.in-Ok.batch c.args.asked c.args.fates.now c.args.self.now.downlink c.send.new.downlink c.deref.result.now c.deref-2.result.now
+    is c.deref.ensures c.deref-2.ensures.value st c.in_ok-send.ensures

@@ -3,7 +3,7 @@ use Rattle.std.specs.List.{All}
 use Rattle.generation.specs.Layouts.{section_of}
 use Rattle.section_stream.specs.Kept.{view_bytes}
 use Rattle.section_stream.specs.Packing.{IsSectionLike}
-use Rattle.carousel_world.proofs.encoder.OneByOneEncoder.sections.Given as goal
+use Rattle.carousel_world.proofs.world.encode.Given as goal
 
 abbrev pub invariant-loop-item : goal.invariant-loop-item
 invariant-loop-item l = record {
