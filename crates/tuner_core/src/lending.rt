@@ -62,7 +62,8 @@ pub fn listed_in(held: &[Tuned], id: u16) -> Option<Listed<'_>>
     None
 }
 
-/// The module of this id by the DII of this identification: the lines of the others aren't gone over.
+/// The module of this id by the DII of this identification. The lines of other DIIs aren't
+/// searched.
 pub fn delivered_in(held: &[Tuned], identification: u16, id: u16) -> Option<Listed<'_>>
     ensures { option_map view_listed result
         ≡ find (λ h. (h.identification == identification) && (h.line.id == id))

@@ -1,10 +1,12 @@
-//! The receiver of one carousel: from candidates for sections to what is held of the modules, answers on it, and shots of it.
+//! The receiver of one carousel: it hears candidates for sections, holds modules, and answers
+//! paths.
 //!
-//! The receiver follows one generation after another. A generation is described by one to 16 DIIs (ISO/IEC 13818-6,
-//! DownloadInfoIndication) of one version, each of an identification of its own. The first of another version takes the place of all
-//! that are held, and those that follow join it. What is there of a module stays over such a turn where the DIIs of its
-//! identification, before and after, describe the module in the same way, and the two versions are fewer than 256 apart. (These
-//! rules are this project's own.)
+//! The receiver follows one generation after another. One to 16 DIIs (ISO/IEC 13818-6,
+//! DownloadInfoIndication) of one version describe a generation, each with an identification of its
+//! own. The first DII of another version takes the place of all that are held, and later ones join
+//! it. A module stays over such a turn if the DIIs of its identification, before and after,
+//! describe it in the same way and the two versions are fewer than 256 apart. These rules are this
+//! project's own.
 //!
 //! ```
 //! use path_resolver::{Answer, resolve};

@@ -15,8 +15,8 @@ use crate::gateway::{copy_of_held, take_dsi};
 use crate::hearing::{Told, hear};
 use crate::lending::{delivered_in, is_held_in, lent, listed_in};
 use crate::told::{Cause, Fed};
-use crate::turns::{Turns, take_block, take_dii};
-use module_cache::{Cache, Line, Tuned};
+use crate::turns::{Turns, take_dii};
+use module_cache::{Cache, Line, Taken, Tuned};
 use oc_bytes::NoMemory;
 use path_resolver::{Answer, Gateway, Held, Holding, Listed, Shot, answer_on};
 use path_tree::Path;
@@ -26,18 +26,16 @@ use std::sync::Arc;
 
 /// A receiver of one carousel.
 ///
-/// It is fed candidates: what a demultiplexer took for sections. Contracts see what it holds, and the relation `StandsFor`
-/// says of which candidates that is what looking back over all of them gives.
+/// It is fed candidates: what a demultiplexer took for sections. Contracts see what it holds, and
+/// `StandsFor` relates this to the candidates that were fed.
 ///
-/// It holds up to 16 DIIs of one version, each of an identification of its own, with what came of the modules that they list, and
-/// the gateway of the last DSI that has one. A DII of another version turns: it takes the place of all that are held. Where the two
-/// versions are fewer than 256 apart, what came of their modules then waits for the DII of the same identification, up to the next
-/// turn; else it is dropped.
+/// It holds up to 16 DIIs of one version, with what came of their modules, and the gateway of the
+/// last DSI that has one. A DII of another version turns: it takes the place of all that are held.
+/// If the two versions are fewer than 256 apart, their modules then wait for a DII of the same
+/// identification, up to the next turn. Otherwise they are dropped.
 ///
-/// The memory of what is held is bounded, whatever comes: a DII joins only where it lists no module of a held one, and where the
-/// modules of all of them have at most 268,435,456 bytes. What waits are modules of DIIs that were held before the last turn, and each
-/// turn drops what waited before. Where DIIs of two versions alternate, each of them turns, and no more than the modules of one
-/// version wait beside those of the other. `held_is_bounded` says the numbers.
+/// The memory of what is held is bounded, as `held_is_bounded` says. What waits are modules of DIIs
+/// that were held before the last turn, so no more than the modules of two versions are there.
 #[derive(Drop)]
 pub struct Tuner {
     alloc: Global,
@@ -150,7 +148,10 @@ impl Tuner {
             Told::NoBlock(place) => Ok(Fed::Nothing(Cause::NotDdb(place))),
             Told::Dsi(dsi) => take_dsi(self.alloc, &mut self.gateway, &dsi),
             Told::Dii(dii) => take_dii(&mut self.turns, &dii),
-            Told::Block(parts) => take_block(&mut self.turns.cache, &parts),
+            Told::Block(parts) => match self.turns.cache.offer_parts(&parts)? {
+                Taken::New => Ok(Fed::Changed),
+                taken => Ok(Fed::Nothing(Cause::Block(taken))),
+            },
         }
     }
 
@@ -163,45 +164,44 @@ impl Tuner {
 
     /// Hears one candidate: the bytes that a demultiplexer took for a section.
     ///
-    /// The answer is the first of these that holds. A candidate that is no section is `Section`; one of table 0x3B that holds no
-    /// control message `NotControl`. A DSI is `NoGateway` where its IOR has no BIOP profile, `SameDsi` where that is the held
-    /// gateway, and else `Changed`. A section of table 0x3C that holds no block message is `NotDdb`; a block that is taken is
-    /// `Changed`, and any other `Block` with what became of it. Of a DII the first of these holds:
+    /// A candidate that is no section is `Section`. One of table 0x3B without a control message is
+    /// `NotControl`, one of table 0x3C without a block message `NotDdb`. A DSI is `NoGateway` if
+    /// its IOR has no BIOP profile, and `SameDsi` if that is the held gateway. A block that isn't
+    /// taken is `Block`. Of a DII the first of these holds:
     ///
-    /// 1. `OtherDii` where its identification is 0.
-    /// 2. `DiiOverLimit` where it breaks a limit by itself: a block size of 0 or above 4,066 bytes, a module of more than 16,842,752
-    ///    bytes or 65,536 blocks, more than 268,435,456 bytes in all, or a module that is listed twice.
-    /// 3. It turns where no DII is held, or where its version isn't the held one: `Changed`.
-    /// 4. `SameDii` where a DII of its identification is held, whatever either lists.
-    /// 5. `OtherDii` where 16 DIIs are held.
-    /// 6. `DiiOverLimit` where a held DII lists a module of it, or where the modules of the held DIIs and its own have more than
-    ///    268,435,456 bytes together.
-    /// 7. Else it joins: it is held beside the others, `Changed`.
+    /// 1. `OtherDii`: its identification is 0.
+    /// 2. `DiiOverLimit`: it breaks a limit by itself, those of [`module_cache::is_within`].
+    /// 3. `Changed`: no DII is held, or its version isn't the held one. It turns.
+    /// 4. `SameDii`: a DII of its identification is held, whatever either lists.
+    /// 5. `OtherDii`: 16 DIIs are held.
+    /// 6. `DiiOverLimit`: a held DII lists a module of it, or the modules of all of them have more
+    ///    than 268,435,456 bytes in all.
+    /// 7. `Changed`: it joins the others.
     ///
-    /// A DII that turns is held alone from then on. The first sets the label to its version, 0 to 16,383, and each later one adds its
-    /// distance from the version held before, 1 to 16,383. Below a distance of 256 the modules of the DIIs that were held wait, each
-    /// under its DII's identification; from 256 on they are dropped, and the epoch rises by one. What waited before is dropped
-    /// by every turn. Label and epoch stay at the greatest u64, and a DII that joins changes neither.
+    /// The first DII that turns sets the label to its version, 0 to 16,383. Each later one adds its
+    /// distance from the version held before, 1 to 16,383. From a distance of 256 on, the epoch
+    /// rises by one. Label and epoch stop at the greatest u64.
     ///
-    /// A DII that turns or joins takes up what waits under its identification. A module stays, whole or in part, exactly where
-    /// both DIIs have the same downloadId and block size and list it with the same version, size and compression. Its other modules
-    /// begin empty, and nothing waits under the identification any more. Of a module that waits no block is taken.
-    /// (These rules are this project's own.)
+    /// A DII that turns or joins takes over what waits under its identification: a module stays,
+    /// whole or in part, exactly where both DIIs have the same downloadId and block size and list
+    /// it with the same version, size and compression. No block is taken for a module that waits.
     ///
-    /// `Nothing` comes exactly where what is held doesn't change. Each candidate is counted, up to the greatest u64. `NoMemory`
-    /// leaves the receiver as it was; it comes only of sections of table 0x3B, which are read into lists, and of blocks that are
-    /// new.
+    /// Each candidate is counted, up to the greatest u64. `NoMemory` leaves the receiver as it was.
+    /// It comes only of sections of table 0x3B and of blocks that are new.
     pub fn feed(&mut self, candidate: &[u8]) -> Result<Fed, NoMemory>
+        // by the rules, and looking back over all candidates
         ensures answer { IfOk result (λ fed. (self.new, fed) ≡ step self.old candidate.now) }
         ensures looks_back { IfOk result (λ fed.
             (candidates : List Bytes)
             → StandsFor self.old candidates
             → fed ≡ fed_after candidates candidate.now) }
+        // what is held
         ensures nothing { IfOk result (λ fed.
             (fed ≢ Fed.Changed) ↔ (self.new ≡ with_next_mark self.old)) }
         ensures stands { OnOk result ((candidates : List Bytes)
             → StandsFor self.old candidates
             → StandsFor self.new (candidates ++ candidate.now ∷ [])) }
+        // out of memory
         ensures err { OnErr result (self.new ≡ self.old) }
         ensures memory { OnErr result (IsTrue (asks self.old.cache (as_heard candidate.now))) }
     {
@@ -210,7 +210,7 @@ impl Tuner {
         Ok(fed)
     }
 
-    /// The held DIIs in the order in which they were heard, each with what is there of its modules. Takes no memory.
+    /// The held DIIs in the order in which they were heard. Takes no memory.
     pub fn held(&self) -> &[Tuned]
         ensures held { result.now ≡ self.now.cache.held }
         ensures looks_back { (candidates : List Bytes)
@@ -240,12 +240,12 @@ impl Tuner {
         })
     }
 
-    /// A shot of what is held, with the number of candidates so far as its mark. The modules are shared and not copied.
+    /// A shot of what is held. Its mark is the number of candidates so far. Modules are shared.
     ///
-    /// `number` and `draws` are the caller's own counts, and stand in the shot as they are. The label is the version of the first DII
-    /// that turned plus the distances since, none where no DII is held, and the epoch is the number of turns that dropped all. The held
-    /// DIIs are given by their identifications in the order in which they were heard, the one that turned first, and the table has
-    /// their modules in the same order. What waits isn't in it. `NoMemory` says that there was no room for the shot.
+    /// `number` and `draws` are the caller's own counts. The label is the version of the first DII
+    /// that turned plus the distances since; the epoch counts the turns that dropped all. The DIIs'
+    /// identifications and the table are in the order in which the DIIs were heard. What waits
+    /// isn't in it.
     pub fn shot(&self, number: u64, draws: u64) -> Result<Arc<Shot>, NoMemory>
         ensures numbers { IfOk result (λ s.
             ((arc_value s).number ≡ number) × ((arc_value s).draws ≡ draws)) }
@@ -259,9 +259,9 @@ impl Tuner {
         Ok(shared)
     }
 
-    /// The answer to the whole path on what is held: that of [`path_resolver::resolve`] on a shot which is taken now, but no shot is made.
-    /// A file or a folder shares the module that holds it, whatever is heard later; the one refusal is out of memory, in sharing it, so
-    /// that it comes only where the answer is a file or a folder.
+    /// The answer to the whole path on what is held, as [`path_resolver::resolve`] gives it on a
+    /// shot taken now. No shot is made. A file or a folder shares the module that holds it, which
+    /// may run out of memory.
     pub fn resolve(&self, path: &Path) -> Result<Answer, NoMemory>
         ensures answer { IfOk result (λ a. a ≡ answer_of (held_by self.now) path.now) }
         ensures looks_back { IfOk result (λ a. (candidates : List Bytes)
@@ -272,7 +272,7 @@ impl Tuner {
     }
 }
 
-/// What the receiver itself lends for an answer. A module whose delivery is known is sought among the lines of that DII alone.
+/// What the receiver lends for an answer.
 impl Holding for Tuner {
     ghost use Rattle.tuner_core.specs.Stands.{held_by};
 

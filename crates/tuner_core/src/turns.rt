@@ -1,25 +1,23 @@
-//! DIIs that turn or join, and blocks.
+//! DIIs that turn or join.
 
 ghost use Rattle.std.specs.Prelude.{◌≡◌, ◌≢◌, ◌<◌, ◌&&◌, map, IsTrue, IfOk, IfSome, OnOk, OnErr};
-ghost use Rattle.ddb_block.specs.Blocks.{parts_view};
 ghost use Rattle.dsi_dii.specs.Controls.{view_dii};
 ghost use Rattle.module_cache.specs.Joining as joining;
-ghost use Rattle.module_cache.specs.Joining.{outline_held, taken_of};
+ghost use Rattle.module_cache.specs.Joining.{outline_held};
 ghost use Rattle.tuner_core.specs.Stands as stands;
-ghost use Rattle.tuner_core.specs.Stands.{after_dii, after_block, turn_from, held_outlines};
+ghost use Rattle.tuner_core.specs.Stands.{after_dii, turn_from, held_outlines};
 ghost use Rattle.tuner_core.specs.Inner.Stands.{after_same, first_version};
 ghost use Rattle.tuner_core.specs.Inner.TunerView.{view_turns};
 
 use crate::told::{Cause, Fed};
-use ddb_block::Parts;
 use dsi_dii::{Dii, distance};
-use module_cache::{Cache, Taken, Tuned, fits_beside, is_apart, is_identification_held, is_within};
+use module_cache::{Cache, Tuned, fits_beside, is_apart, is_identification_held, is_within};
 use oc_bytes::NoMemory;
 
-/// Versions that are so many apart, or more, say nothing of the modules between them: a module's version has 8 bits.
+/// From this distance on, versions say nothing of the modules: a module's version has 8 bits.
 const FAR: u16 = 256;
 
-/// So many DIIs of one version are held together at most. This project's own limit.
+/// The most DIIs of one version that are held together. This project's own limit.
 pub const MOST_HELD: usize = 16;
 
 /// The held DIIs with their modules and what waits, and how the receiver came to them.
@@ -132,18 +130,4 @@ pub fn take_dii(turns: &mut Turns, dii: &Dii) -> Result<Fed, NoMemory>
 {
     let fed = admit(turns, dii)?;
     Ok(fed)
-}
-
-/// Takes a block of a module of a held DII.
-pub fn take_block(cache: &mut Cache, parts: &Parts<'_>) -> Result<Fed, NoMemory>
-    ensures ok { IfOk result (λ fed.
-        (cache.new, fed) ≡ after_block cache.old (parts_view parts.now)) }
-    ensures changed { IfOk result (λ fed. fed ≡ Fed.Changed → cache.new ≢ cache.old) }
-    ensures err { OnErr result (cache.new ≡ cache.old) }
-    ensures memory { OnErr result (taken_of cache.old (parts_view parts.now) ≡ Taken.New) }
-{
-    match cache.offer_parts(parts)? {
-        Taken::New => Ok(Fed::Changed),
-        taken => Ok(Fed::Nothing(Cause::Block(taken))),
-    }
 }
