@@ -1,7 +1,9 @@
-//! Watchers of paths: a desk is shown the shots of a receiver one after another, and tells each watcher of those of its paths whose
-//! answers changed. Who watches, which paths, and what counts as a change are this project's own rules.
+//! Watchers of paths: a desk is shown what a receiver holds, time after time, and tells each watcher
+//! of those of its paths whose answers changed. Who watches, which paths, and what counts as a change
+//! are this project's own rules.
 //!
-//! A receiver has heard where the gateway lies, and nothing yet of the module that holds it. The watcher of all paths is told so:
+//! A receiver has heard where the gateway lies, and nothing yet of the module that holds it. The
+//! watcher of all paths is told so:
 //!
 //! ```
 //! use dsi_dii::ModuleLine;
