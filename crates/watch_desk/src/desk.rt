@@ -20,8 +20,8 @@ use std::sync::Arc;
 
 /// Tells watchers of paths whose answers changed from one shot to the next.
 ///
-/// Contracts see the watchers' prefixes, the paths and the answers on the last shot. `StandsFor` says
-/// of which shots that is the last.
+/// Contracts see the watchers' prefixes, the paths and the answers on the last shot. `StandsFor`
+/// says of which shots that is the last.
 #[derive(Drop)]
 pub struct Desk {
     alloc: Global,
@@ -91,8 +91,8 @@ impl Desk {
 
     /// Shows what is held at this moment, by a shot or by the receiver itself.
     ///
-    /// The answer is whom to tell of what, by watcher and then by path. A watcher is told of each path
-    /// that it wants where [`path_resolver::same`] says that the answer isn't that on the last shot.
+    /// The answer is whom to tell of what, by watcher and then by path. A watcher is told of each
+    /// path that it wants and whose answer isn't that on the last shot, by [`path_resolver::same`].
     /// Before the first shot each path has no carousel. Each path is resolved once, however many
     /// watchers there are.
     ///

@@ -25,8 +25,8 @@ pub fn shots_tell_it()
     ensures { ShotsTellIt }
 {}
 
-/// A shot is needed only after a candidate to which the receiver answers that something changed, and
-/// after a section of blocks only where one module more is whole. Any other tells nothing.
+/// A shot is needed only after a candidate to which the receiver answers that something changed,
+/// and after a section of blocks only where one module more is whole. Any other tells nothing.
 pub fn shots_are_needed_at_changes()
     ensures { ShotsAreNeededAtChanges }
 {
