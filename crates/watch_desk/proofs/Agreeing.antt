@@ -1,6 +1,9 @@
 -- What a desk goes through, path by path and watcher by watcher, are the notices of the definition.
-use Rattle.std.proofs.Common.{ℕ, suc, ◌≡◌, ◌+◌, Bool, true, false, cond, not, List, [], ◌∷◌, ◌++◌, length, map, Option, Some, None, refl, sym, ap, ap₂, ◌∙◌}
-use Rattle.std.specs.List.{enumerate_from, filter, flat_map}
+use Rattle.std.proofs.Common.{ℕ, suc, ◌≡◌, ◌+◌, Bool, true, false, cond, not, List, [], ◌∷◌, ◌++◌, length, map, ◌<◌, Option, Some, None, Result, Ok, Err, refl, sym, ap, ap₂, subst, ◌∙◌}
+use Rattle.std.specs.Prelude.{IfOk, OnOk}
+use Rattle.std.specs.declared.vec.Vec.{Vec}
+use Rattle.std.specs.List.{All, enumerate_from, filter, flat_map}
+use Rattle.oc_bytes.specs.Outcome.{MakesList}
 use Rattle.path_tree.specs.Paths.{PathNames}
 use Rattle.path_resolver.specs.Resolving.{Held, answer_of}
 use Rattle.path_resolver.specs.Comparing.{same_answer}
@@ -11,6 +14,7 @@ use Rattle.watch_desk.specs.Notices.{differs, is_told, notice, notices_to}
 use Rattle.watch_desk.specs.Inner.Showing.{changes, keeping, told_from, told_of, told_to_all}
 use Rattle.watch_desk.specs.Watching.{DeskState, StandsFor, answer_on, answers_kept, last_shot, notices_of}
 use Rattle.watch_desk.proofs.Lists.{last_more}
+use Rattle.watch_desk.proofs.Within.{told_within}
 
 -- ---- which answers changed
 
@@ -61,3 +65,19 @@ tells d shots shot s =
 
 pub stands_still : (d : DeskState) (shots : List Held) (shot : Held) → StandsFor (keeping d shot) (shots ++ shot ∷ [])
 stands_still d shots shot = record { kept = sym (ap (λ (o : Option Held). answers_kept o d.paths) (last_more shots shot)) }
+
+-- ---- of a call, where it isn't refused
+
+pub told_are : {Z E : Type 0} (d : DeskState) (shot : Held) (r : Result (Vec Notice Z) E) → MakesList r (told_of d shot)
+    → IfOk r (λ told. (shots : List Held) → StandsFor d shots → told.items ≡ notices_of d shots shot)
+told_are d shot (Ok told) e = λ shots s. e ∙ tells d shots shot s
+told_are d shot (Err refused) e = tt
+
+pub within_are : {Z E : Type 0} (d : DeskState) (shot : Held) (r : Result (Vec Notice Z) E) → MakesList r (told_of d shot) → IfOk r (λ told. All (λ n. n.path < length d.paths) told.items)
+within_are d shot (Ok told) e = rw e (told_within d shot)
+within_are d shot (Err refused) e = tt
+
+pub stands_kept : {X E : Type 0} (d new : DeskState) (shot : Held) (r : Result X E) → OnOk r (new ≡ keeping d shot)
+    → OnOk r ((shots : List Held) → StandsFor d shots → StandsFor new (shots ++ shot ∷ []))
+stands_kept d new shot (Ok told) e = λ shots s. subst (λ (k : DeskState). StandsFor k (shots ++ shot ∷ [])) (sym e) (stands_still d shots shot)
+stands_kept d new shot (Err refused) e = tt

@@ -1,8 +1,8 @@
 pub mod Lists
 pub mod Due
+mod Within
 pub mod Agreeing
 pub mod Steps
-mod Within
 pub mod Over
 mod Staying
 pub mod Heard

@@ -13,13 +13,15 @@ use crate::notice::Notice;
 use crate::notifying::notify_all;
 use crate::watched::Watched;
 use oc_bytes::NoMemory;
-use path_resolver::Shot;
+use path_resolver::{Answer, Holding, Shot};
 use path_tree::Path;
 use std::alloc::Global;
 use std::sync::Arc;
 
-/// Tells watchers of paths whose answers changed from one shot to the next. Contracts see the prefixes of the watchers, the paths and
-/// the answers that are kept, and the relation `StandsFor` says on which shots those are the last ones.
+/// Tells watchers of paths whose answers changed from one shot to the next.
+///
+/// Contracts see the watchers' prefixes, the paths and the answers on the last shot. `StandsFor`
+/// says of which shots that is the last.
 #[derive(Drop)]
 pub struct Desk {
     alloc: Global,
@@ -32,12 +34,13 @@ impl Desk {
     ghost use Rattle.watch_desk.specs.Prefixes.{prefixes_of};
     ghost use Rattle.watch_desk.specs.View.{state};
 
-    /// A desk of these paths and watchers, to which no shot was shown yet. There are at most [`MOST_WATCHED`](crate::MOST_WATCHED)
-    /// paths, all different, and at most [`MOST_FILTERS`](crate::MOST_FILTERS) filters. It takes no memory.
+    /// A desk of these paths and watchers, to which no shot was shown yet. It takes no memory.
     pub fn new(alloc: Global, paths: Vec<Path>, filters: Vec<Filter>) -> Desk
+        // What callers keep to: few paths, all different, and few watchers.
         requires watched { length paths.items ≤ MOST_WATCHED }
         requires differ { AllPairs (λ p q. p ≢ q) paths.items }
         requires filters { length filters.items ≤ MOST_FILTERS }
+        // What the desk is of.
         ensures prefixes { (state result).prefixes ≡ prefixes_of filters.items }
         ensures paths { (state result).paths ≡ paths.items }
         ensures stands { StandsFor (state result) [] }
@@ -56,40 +59,71 @@ impl Desk {
         self.watched.paths()
     }
 
-    /// Shows a shot, and answers whom to tell of what: by watcher and then by path one notice exactly where the watcher wants the path,
-    /// and the answers to it on this shot and on the one before aren't the same. A notice names a path by its place among `paths`. Before
-    /// the first shot each path has no carousel. Answers are compared by [`path_resolver::same`], whatever the shots' labels and marks
-    /// are, and each path is resolved once, however many watchers there are.
-    ///
-    /// Out of memory is the only refusal. It gives the shot back and leaves the desk as it was, so the shot that is shown next is compared
-    /// with the last one that wasn't refused. It comes only where a path is watched. (These rules are this project's own.)
+    /// The answers to the paths on the last shot, none before the first. It takes no memory.
+    pub fn answers(&self) -> &[Answer]
+        ensures { result.now ≡ (state self.now).last }
+    {
+        self.watched.answers()
+    }
+
+    /// Shows a shot: `show_held` of it. A refusal gives the shot back.
     pub fn show(&mut self, shot: Arc<Shot>) -> Result<Vec<Notice>, (NoMemory, Arc<Shot>)>
+        // Whom to tell, and the shots that the desk stands for.
         ensures told { IfOk result (λ told. (shots : List Held) → StandsFor (state self.old) shots
             → told.items ≡ notices_of (state self.old) shots (held_of (arc_value shot))) }
         ensures within { IfOk result (λ told.
             All (λ n. n.path < length (state self.old).paths) told.items) }
         ensures stands { OnOk result ((shots : List Held) → StandsFor (state self.old) shots
             → StandsFor (state self.new) (shots ++ held_of (arc_value shot) ∷ [])) }
+        // What stays.
         ensures same { ((state self.new).prefixes ≡ (state self.old).prefixes)
             × ((state self.new).paths ≡ (state self.old).paths) }
         ensures refused { OnErr result (state self.new ≡ state self.old) }
+        // Out of memory.
         ensures back { IfErr result (λ refused. arc_value refused.1 ≡ arc_value shot) }
         ensures memory { OnErr result (0 < length (state self.old).paths) }
     {
-        match self.turn_to(&shot) {
+        match self.show_held(&*shot) {
             Ok(told) => Ok(told),
             Err(refused) => Err((refused, shot)),
         }
     }
 
-    /// Compares the answers on a shot with those that are kept, and keeps them.
-    fn turn_to(&mut self, shot: &Shot) -> Result<Vec<Notice>, NoMemory>
-        ensures told { MakesList result (told_of (state self.old) (held_of shot.now)) }
-        ensures kept { OnOk result (state self.new ≡ keeping (state self.old) (held_of shot.now)) }
+    /// Shows what is held at this moment, by a shot or by the receiver itself.
+    ///
+    /// The answer is whom to tell of what, by watcher and then by path. A watcher is told of each
+    /// path that it wants and whose answer isn't that on the last shot, by [`path_resolver::same`].
+    /// Before the first shot each path has no carousel. Each path is resolved once, however many
+    /// watchers there are.
+    ///
+    /// Out of memory is the only refusal. What is shown next is compared with the last shot that
+    /// wasn't refused.
+    pub fn show_held<H: Holding>(&mut self, held: &H) -> Result<Vec<Notice>, NoMemory>
+        // Whom to tell, and the shots that the desk stands for.
+        ensures told { IfOk result (λ told. (shots : List Held) → StandsFor (state self.old) shots
+            → told.items ≡ notices_of (state self.old) shots (H.state held.now)) }
+        ensures within { IfOk result (λ told.
+            All (λ n. n.path < length (state self.old).paths) told.items) }
+        ensures stands { OnOk result ((shots : List Held) → StandsFor (state self.old) shots
+            → StandsFor (state self.new) (shots ++ H.state held.now ∷ [])) }
+        // What stays.
+        ensures same { ((state self.new).prefixes ≡ (state self.old).prefixes)
+            × ((state self.new).paths ≡ (state self.old).paths) }
+        ensures refused { OnErr result (state self.new ≡ state self.old) }
+        // Out of memory.
+        ensures memory { OnErr result (0 < length (state self.old).paths) }
+    {
+        self.turn_to(held)
+    }
+
+    /// Compares the answers on what is held with those that are kept, and keeps them.
+    fn turn_to<H: Holding>(&mut self, held: &H) -> Result<Vec<Notice>, NoMemory>
+        ensures told { MakesList result (told_of (state self.old) (H.state held.now)) }
+        ensures kept { OnOk result (state self.new ≡ keeping (state self.old) (H.state held.now)) }
         ensures refused { OnErr result (state self.new ≡ state self.old) }
         ensures memory { OnErr result (0 < length (state self.old).paths) }
     {
-        let now = self.watched.answers_on(self.alloc, shot)?;
+        let now = self.watched.answers_on(self.alloc, held)?;
         let changed = self.watched.changes_to(self.alloc, &now)?;
         let paths = self.watched.paths();
         let told = notify_all(self.alloc, &self.filters, paths, &changed)?;

@@ -6,8 +6,8 @@ use path_tree::Path;
 /// What answers whether a path is wanted.
 pub type Call = Box<dyn Fn(&Path) -> bool + Send + Sync + Drop>;
 
-/// A watcher: it wants the paths of which its prefix is a prefix, the prefix itself among them. A closure answers it, which is kept
-/// beside the fact that it answers so. A `Filter` is seen as its prefix.
+/// A watcher: it wants its prefix and every path below it. A closure answers that, kept beside the
+/// fact that it answers so. A `Filter` is seen as its prefix.
 #[derive(Drop)]
 pub struct Filter {
     prefix: Path,
@@ -17,8 +17,7 @@ pub struct Filter {
 }
 
 impl Filter {
-    /// The watcher of a prefix, as a closure answers it: the closure may be called with each path, and answers true exactly for
-    /// the prefix itself and the paths below it. It takes no memory.
+    /// The watcher of a prefix, as a closure answers it. It takes no memory.
     pub fn new(prefix: Path, call: Call) -> Filter
         requires callable { (p : _) → Call.pre call p }
         requires answers { (p : _) (r : _) → Call.post call p r → r ≡ is_wanted prefix p.now }
@@ -34,7 +33,7 @@ impl Filter {
         &self.prefix
     }
 
-    /// Whether the watcher wants a path: the prefix is a prefix of it. It takes no memory.
+    /// Whether the watcher wants a path. It takes no memory.
     pub fn wants(&self, path: &Path) -> bool
         ensures { result ≡ is_wanted self.now.prefix path.now }
     {

@@ -8,14 +8,14 @@ pub fn limits_are_numbers()
     ensures { LimitsAreThese }
 {}
 
-/// The notices from one shot to the next are those of the paths that are wanted and whose answers aren't the same, each once, by watcher and
-/// then by path, and no others.
+/// The notices from one shot to the next are those of the paths that are wanted and whose answers
+/// aren't the same, each once, by watcher and then by path, and no others.
 pub fn each_change_is_told()
     ensures { EachChangeIsTold }
 {}
 
-/// What is told over a list of candidates is, for each candidate, the notices from the answers over the candidates before it to those over
-/// it as well, each once, by candidate, then by watcher and then by path, and nothing else.
+/// Over a list of candidates each candidate's notices are told once, and nothing else. They go from
+/// the answers before it to those after it, by candidate, then by watcher and then by path.
 pub fn each_change_is_told_after_its_candidate()
     ensures { EachChangeIsToldAfter }
 {}
@@ -25,8 +25,8 @@ pub fn shots_tell_it()
     ensures { ShotsTellIt }
 {}
 
-/// A shot is needed only after a candidate to which the receiver answers that something changed, and after a section of blocks only where
-/// one module more is whole: any other changes no answer, and tells nothing.
+/// A shot is needed only after a candidate to which the receiver answers that something changed,
+/// and after a section of blocks only where one module more is whole. Any other tells nothing.
 pub fn shots_are_needed_at_changes()
     ensures { ShotsAreNeededAtChanges }
 {

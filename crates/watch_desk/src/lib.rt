@@ -1,7 +1,9 @@
-//! Watchers of paths: a desk is shown the shots of a receiver one after another, and tells each watcher of those of its paths whose
-//! answers changed. Who watches, which paths, and what counts as a change are this project's own rules.
+//! Watchers of paths: a desk is shown what a receiver holds, and tells each watcher of those of its
+//! paths whose answers changed. Who watches, which paths, and what counts as a change are this
+//! project's own rules.
 //!
-//! A receiver has heard where the gateway lies, and nothing yet of the module that holds it. The watcher of all paths is told so:
+//! A receiver has heard where the gateway lies, and nothing yet of the module that holds it. The
+//! watcher of all paths is told so:
 //!
 //! ```
 //! use dsi_dii::ModuleLine;
@@ -16,10 +18,13 @@
 //! let paths = vec![in alloc; Path::parse(alloc, b"/news/today.txt")?]?;
 //! let mut desk = Desk::new(alloc, paths, vec![in alloc; Filter::new(root, call)]?);
 //! let key = Key::new(vec![in alloc; 0, 0, 0, 1]?);
-//! let gateway = Some(Gateway { location: Location { carousel: 1, module: 5, key }, delivery: None });
+//! let location = Location { carousel: 1, module: 5, key };
+//! let gateway = Some(Gateway { location, delivery: None });
 //! let line = ModuleLine { id: 5, size: 34, version: 0, compressed: false };
 //! let table = vec![in alloc; Held { identification: 1, line, module: None }]?;
-//! let shot = Shot { number: 0, draws: 0, mark: 2, epoch: 0, label: Some(0), held: vec![in alloc; 1]?, gateway, table };
+//! let held = vec![in alloc; 1]?;
+//! let label = Some(0);
+//! let shot = Shot { number: 0, draws: 0, mark: 2, epoch: 0, label, held, gateway, table };
 //! let told = desk.show(Arc::new(alloc, shot)?).map_err(|refused| refused.0)?;
 //! assert_eq!(rt; told.as_slice(), [Notice { watcher: 0, path: 0 }].as_slice());
 //! ```

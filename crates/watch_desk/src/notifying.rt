@@ -13,7 +13,7 @@ use oc_bytes::NoMemory;
 use path_tree::Path;
 use std::alloc::Global;
 
-/// The notices to each watcher of the paths that changed, where `changed` says of each path whether it did.
+/// The notices to each watcher of the paths that changed: `changed` says of each whether it did.
 pub(crate) fn notify_all(
     alloc: Global,
     filters: &[Filter],

@@ -33,7 +33,8 @@ fn is_whole(held: &Held) -> bool
     held.module.is_some()
 }
 
-/// Whether a candidate's table_id is that of block messages (ISO/IEC 13818-6, the DSM-CC section). Whether it is a section isn't asked.
+/// Whether a candidate's table_id is that of block messages (ISO/IEC 13818-6, the DSM-CC section).
+/// Whether it is a section isn't asked.
 pub fn is_of_blocks(candidate: &[u8]) -> bool
     ensures { result ≡ parts.is_of_blocks candidate.now }
 {

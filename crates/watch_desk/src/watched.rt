@@ -1,18 +1,18 @@
 ghost use Rattle.std.specs.Prelude.{◌≡◌, ◌≤◌, ◌<◌, [], length, map, OnErr};
 ghost use Rattle.oc_bytes.specs.Outcome.{MakesList};
-ghost use Rattle.path_resolver.specs.Shots.{answers_of};
+ghost use Rattle.path_resolver.specs.Resolving.{answer_of};
 ghost use Rattle.watch_desk.specs.Inner.Showing as showing;
 ghost use Rattle.watch_desk.specs.Inner.Showing.{differs_at};
 ghost use Rattle.watch_desk.specs.declared.TheConstants.{MOST_WATCHED};
 
 use oc_bytes::NoMemory;
-use path_resolver::{Answer, Shot, resolve, same};
+use path_resolver::{Answer, Holding, answer_on, same};
 use path_tree::Path;
 use std::alloc::Global;
 use std::marker::Model;
 
-/// The paths that are watched, and the answers to them on the last shot, without the closures of those who watch: what a `Desk`
-/// keeps beside its filters.
+/// The paths that are watched, and the answers to them on the last shot: what a `Desk` keeps beside
+/// its filters.
 #[derive(Drop)]
 pub(crate) struct Watched {
     paths: Vec<Path>,
@@ -53,12 +53,23 @@ impl Watched {
         &self.paths
     }
 
-    /// The answers to the paths on a shot. Each path is resolved once.
-    pub(crate) fn answers_on(&self, alloc: Global, shot: &Shot) -> Result<Vec<Answer>, NoMemory>
-        ensures answers { MakesList result (map (answers_of shot.now) self.now.paths) }
+    /// The answers on the last shot.
+    pub(crate) fn answers(&self) -> &[Answer]
+        ensures { result.now ≡ self.now.last }
+    {
+        &self.last
+    }
+
+    /// The answers to the paths on what is held. Each path is resolved once.
+    pub(crate) fn answers_on<H: Holding>(
+        &self,
+        alloc: Global,
+        held: &H,
+    ) -> Result<Vec<Answer>, NoMemory>
+        ensures answers { MakesList result (map (answer_of (H.state held.now)) self.now.paths) }
         ensures memory { OnErr result (0 < length self.now.paths) }
     {
-        answers_to(alloc, &self.paths, shot)
+        answers_to(alloc, &self.paths, held)
     }
 
     /// Of each of these answers whether it isn't the one on the last shot.
@@ -77,14 +88,14 @@ impl Watched {
     }
 }
 
-/// The answers to paths on a shot.
-fn answers_to(alloc: Global, paths: &[Path], shot: &Shot) -> Result<Vec<Answer>, NoMemory>
-    ensures answers { MakesList result (map (answers_of shot.now) paths.now) }
+/// The answers to paths on what is held.
+fn answers_to<H: Holding>(alloc: Global, paths: &[Path], held: &H) -> Result<Vec<Answer>, NoMemory>
+    ensures answers { MakesList result (map (answer_of (H.state held.now)) paths.now) }
     ensures memory { OnErr result (0 < length paths.now) }
 {
     let mut answers = Vec::with_capacity(alloc, paths.len())?;
     for path in paths {
-        answers.push(resolve(shot, path)?)?;
+        answers.push(answer_on(held, path)?)?;
     }
     Ok(answers)
 }
