@@ -90,11 +90,6 @@ impl Sender {
         ensures mux { OnOk result
             (self.new.mux ≡ past self.old.mux (section_of generation.now item)) }
     {
-        if let Some(parts) = generation.section_parts(item) {
-            return self
-                .mux
-                .packets_of_parts(&parts.front, parts.block, &parts.crc, &mut self.packets);
-        }
         let section = generation.section(item)?;
         self.mux.packets(&section, &mut self.packets)
     }
